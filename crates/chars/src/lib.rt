@@ -1,0 +1,73 @@
+// The bytes of a source, their classes, and how far a run of one class reaches.
+ghost use mathlib.Core.Path.{_≡_};
+ghost use Rattle.chars.specs.Chars.{isBlank, isDigit, isHexDigit, isLetter, isClass, byteAt};
+ghost use Rattle.chars.specs.Runs.{pastRun};
+
+// The classes of bytes that runs are made of.
+pub enum Class {
+    Ascii,
+    Blank,
+    Line,
+    Digit,
+    Figure,
+    HexDigit,
+    HexColon,
+    NamePart,
+}
+
+pub fn is_blank(b: u16) -> bool
+    ensures { λ r. ⌜ r ≡ isBlank b ⌝ }
+{
+    (9 <= b) & (b <= 13) | (b == 32)
+}
+
+pub fn is_digit(b: u16) -> bool
+    ensures { λ r. ⌜ r ≡ isDigit b ⌝ }
+{
+    (48 <= b) & (b <= 57)
+}
+
+pub fn is_hex_digit(b: u16) -> bool
+    ensures { λ r. ⌜ r ≡ isHexDigit b ⌝ }
+{
+    (48 <= b) & (b <= 57) | (65 <= b) & (b <= 70) | (97 <= b) & (b <= 102)
+}
+
+pub fn is_letter(b: u16) -> bool
+    ensures { λ r. ⌜ r ≡ isLetter b ⌝ }
+{
+    (65 <= b) & (b <= 90) | (97 <= b) & (b <= 122)
+}
+
+pub fn is_class(k: Class, b: u16) -> bool
+    ensures { λ r. ⌜ r ≡ isClass k b ⌝ }
+{
+    match k {
+        Class::Ascii => b < 128,
+        Class::Blank => is_blank(b),
+        Class::Line => (b != 10) & (b < 256),
+        Class::Digit => is_digit(b),
+        Class::Figure => is_digit(b) | (b == 95),
+        Class::HexDigit => is_hex_digit(b),
+        Class::HexColon => is_hex_digit(b) | (b == 58),
+        Class::NamePart => is_letter(b) | is_digit(b) | (b == 95),
+    }
+}
+
+// The byte at a place, and 256 past the end: so no place needs a test before it is read.
+pub fn byte_at(s: &[u8], at: usize) -> u16
+    ensures { λ r. ⌜ r ≡ byteAt (now (s .entry)) at ⌝ }
+{
+    if at < s.len() { s[at] as u16 } else { 256 }
+}
+
+// Past the run of bytes of one class that starts at a place.
+pub fn past(s: &[u8], at: usize, k: Class) -> usize
+    ensures { λ r. ⌜ r ≡ pastRun (isClass k) (now (s .entry)) at ⌝ }
+{
+    let mut i = at;
+    while is_class(k, byte_at(s, i)) {
+        i += 1;
+    }
+    i
+}

@@ -1,0 +1,15 @@
+-- The answers as runs of numbers.
+use Prim.Native.Nat.{ℕ}
+use mathlib.Core.List.{List, [], _∷_}
+use Rattle.tokens.specs.declared.Answer.{Answer}
+use Rattle.tokens.specs.declared.Step.{Step}
+use Rattle.tokens.specs.declared.Step.the-variants.{Taken, Refused}
+
+-- "An answer is number, place and a count"
+unfoldable pub answerNumbers : Answer → List ℕ
+answerNumbers a = a .number ∷ a .start ∷ a .end ∷ a .count ∷ []
+
+-- a token as 0, its ends, its code and its word; a refusal as its number and place, and zeros
+unfoldable pub stepNumbers : Step → List ℕ
+stepNumbers (Taken t w next) = 0 ∷ t .start ∷ t .end ∷ t .code ∷ w ∷ []
+stepNumbers (Refused r) = r .number ∷ r .start ∷ r .end ∷ 0 ∷ 0 ∷ []

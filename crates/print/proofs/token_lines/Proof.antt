@@ -1,0 +1,84 @@
+use Prim.Native.Nat.{_-_}
+use borrow.Author.Needs.{needs}
+use Rattle.print.proofs.token_lines.Statement.{statement}
+use Rattle.print.proofs.token_lines.Tie as tie
+use Rattle.print.proofs.token_lines.Reads as reads
+use Rattle.print.proofs.token_lines.Lts as lts
+use Rattle.io.proofs.print_decimal.Reads as print-decimal-reads
+use Rattle.io.proofs.write_all.Reads as write-all-reads
+use Rattle.print.proofs.number.Reads as number-reads
+use Rattle.tokens.proofs.Cursor.new.Reads as new-reads
+use Rattle.tokens.proofs.Cursor.step.Reads as step-reads
+
+abbrev Inv-loop : tie.InvT-loop
+Inv-loop s count cursor₀ i₀ t8 cursor i = Unit {0}
+
+abbrev μ-loop : tie.MeasureT-loop
+μ-loop s count cursor₀ i₀ t8 cursor i = count - i
+
+new-requires : tie.Need-new-requires Inv-loop μ-loop
+new-requires c κs = search needs
+
+loop-holds : tie.Need-loop-holds Inv-loop μ-loop
+loop-holds c = search needs
+
+step-requires : tie.Need-step-requires Inv-loop μ-loop
+step-requires c κs = search needs
+
+enum-known-step : tie.Need-enum-known-step Inv-loop μ-loop
+enum-known-step c = search needs
+
+enum-told : tie.Need-enum-told Inv-loop μ-loop
+enum-told c = search needs
+
+returns : tie.Need-returns Inv-loop μ-loop
+returns c = search needs
+
+print-decimal-requires : tie.Need-print-decimal-requires Inv-loop μ-loop
+print-decimal-requires c κs = search needs
+
+number-requires : tie.Need-number-requires Inv-loop μ-loop
+number-requires c κs = search needs
+
+number-requires-2 : tie.Need-number-requires-2 Inv-loop μ-loop
+number-requires-2 c κs = search needs
+
+slice-aggregate-write-all : tie.Need-slice-aggregate-write-all Inv-loop μ-loop
+slice-aggregate-write-all c = search needs
+
+write-all-requires : tie.Need-write-all-requires Inv-loop μ-loop
+write-all-requires c κs = search needs
+
+add-i : tie.Need-add-i Inv-loop μ-loop
+add-i c = search needs
+
+loop-less : tie.Need-loop-less Inv-loop μ-loop
+loop-less c = search needs
+
+loop-again : tie.Need-loop-again Inv-loop μ-loop
+loop-again c = search needs
+
+returns-2 : tie.Need-returns-2 Inv-loop μ-loop
+returns-2 c = search needs
+
+pub token-lines-spec : {M : Type 1} → statement M
+token-lines-spec =
+    tie.close
+    (tie.spec
+    Inv-loop
+    μ-loop
+    new-requires
+    loop-holds
+    step-requires
+    enum-known-step
+    enum-told
+    returns
+    print-decimal-requires
+    number-requires
+    number-requires-2
+    slice-aggregate-write-all
+    write-all-requires
+    add-i
+    loop-less
+    loop-again
+    returns-2)

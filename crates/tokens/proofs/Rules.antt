@@ -1,0 +1,164 @@
+-- What each rule answers, from the places that were reached and the bytes that stand there.
+use mathlib.Core.Path.{_≡_, refl, sym, ap, ap₂, _∙_, subst}
+use Prim.Native.Nat.{ℕ, suc, _+_, _-_, _*_, _^_, _<_, _≤_}
+use mathlib.Core.List.{List, [], _∷_}
+use mathlib.Core.Bool.{Bool, true, false, _&&_, _||_, not}
+use native.Mathlib.Decide.{decLt}
+use native.Mathlib.Omega.{arith}
+use lib.ListN.{length, getD}
+use lib.Seq.{slice}
+use lib.Dec.{eqb, ltb, leb}
+use borrow.Author.Tests.{lt-ltb, le-ltb, eq-eqb, ne-eqb, eqb-true}
+use Rattle.chars.specs.declared.Class.the-variants.{Line, Digit, Figure, HexDigit, HexColon, NamePart}
+use Rattle.chars.specs.Chars.{pick, byteAt, isClass, isDigit}
+use Rattle.chars.specs.Texts.{same}
+use Rattle.chars.specs.Runs.{pastSpan, pastRun}
+use Rattle.chars.proofs.Runs.{byte-in, byte-out, inside, within, span-more, span-done}
+use Rattle.tokens.specs.declared.Fit.{Fit}
+use Rattle.tokens.specs.declared.Fit.the-variants.{To, No}
+use Rattle.tokens.specs.Words.{twoSign, twoSigns, oneSign, oneSigns, wordIn, codeOf}
+use Rattle.tokens.specs.Blanks.{pastComment}
+use Rattle.tokens.specs.Rules.{whenFit, signFit, ipv6At, periodAt, fractionAt, numberAt, twoAt, goesOn, escapes, quoteAt}
+use Rattle.tokens.proofs.Pairs.{fst}
+use Rattle.tokens.proofs.Fits.{so, both, not-first, not-second, fails-second, byte-is, byte-isn't, fits, fails, no-sign, first, second}
+
+one-none : oneSign 256 ≡ 0
+unfolding oneSign oneSigns wordIn same
+one-none = refl
+
+module _ (s : List ℕ) (at : ℕ) where
+  -- the end of a comment's line
+  module _ {e : ℕ} (to : e ≡ pastRun (isClass Line) s at) where
+    pub line-on : e < length s → e + 1 ≡ pastComment s at
+    unfolding pastComment
+    line-on h = rw (← to) (first _ (lt-ltb _ _ h) refl)
+
+    pub line-off : length s ≤ e → e ≡ pastComment s at
+    unfolding pastComment
+    line-off h = rw (← to) (second _ (le-ltb _ _ h) refl)
+
+  -- 1. IPv6
+  module _ {a x : ℕ} (to : a ≡ pastRun (isClass HexDigit) s at) (read : x ≡ byteAt s a) where
+    pub ipv6-first : (x ≡ 58 → ⊥) → No ≡ ipv6At s at
+    unfolding ipv6At
+    ipv6-first h = rw (← to) (fails _ _ (not-first _ (byte-isn't s a read h)))
+
+    module _ {b y : ℕ} (colon : x ≡ 58) (on : b ≡ pastRun (isClass HexDigit) s (a + 1)) (next : y ≡ byteAt s b) where
+      pub ipv6-second : (y ≡ 58 → ⊥) → No ≡ ipv6At s at
+      unfolding ipv6At
+      ipv6-second h = rw (← to, ← on) (fails-second (eqb (byteAt s a) 58) _ _ (byte-isn't s b next h))
+
+      pub ipv6-fits : {r : ℕ} → y ≡ 58 → r ≡ pastRun (isClass HexColon) s (b + 1) → To r 1 ≡ ipv6At s at
+      unfolding ipv6At
+      ipv6-fits h g = rw (← to, ← on) (fits (both (byte-is s a read colon) (byte-is s b next h)) g refl)
+
+  -- 2. IPv4: a part of it
+  pub period-none : isDigit (byteAt s at) ≡ false → No ≡ periodAt s at
+  unfolding periodAt
+  period-none h = fails _ _ (not-first _ h)
+
+  module _ {e x : ℕ} (to : e ≡ pastRun (isClass Digit) s at) (read : x ≡ byteAt s e) where
+    pub period-fails : (x ≡ 46 → ⊥) → No ≡ periodAt s at
+    unfolding periodAt
+    period-fails h = rw (← to) (fails-second (isDigit (byteAt s at)) _ _ (byte-isn't s e read h))
+
+    pub period-fits : isDigit (byteAt s at) ≡ true → x ≡ 46 → To (e + 1) 2 ≡ periodAt s at
+    unfolding periodAt
+    period-fits h g = rw (← to) (fits (both h (byte-is s e read g)) refl refl)
+
+  -- 7. Integer, 8. Float
+  pub number-none : isDigit (byteAt s at) ≡ false → No ≡ numberAt s at
+  unfolding numberAt
+  number-none h = fails _ _ h
+
+  module _ {whole : ℕ} (digit : isDigit (byteAt s at) ≡ true) (to : whole ≡ pastRun (isClass Figure) s at) where
+    pub number-float : {e r : ℕ} → fractionAt s whole ≡ true → e ≡ pastRun (isClass Figure) s (whole + 1) → r ≡ pastRun (isClass NamePart) s e → To r 8 ≡ numberAt s at
+    unfolding numberAt
+    number-float h g k = rw (← to, h, ← g) (fits digit k refl)
+
+    pub number-integer : {r : ℕ} → fractionAt s whole ≡ false → r ≡ pastRun (isClass NamePart) s whole → To r 7 ≡ numberAt s at
+    unfolding numberAt
+    number-integer h k = rw (← to, h) (fits digit k refl)
+
+  pub fraction-on : {x : ℕ} {t : Bool} → x ≡ byteAt s at → x ≡ 46 → t ≡ isDigit (byteAt s (at + 1)) → t ≡ fractionAt s at
+  unfolding fractionAt
+  fraction-on e h g = rw (byte-is s at e h) g
+
+  pub fraction-off : {x : ℕ} → x ≡ byteAt s at → (x ≡ 46 → ⊥) → false ≡ fractionAt s at
+  unfolding fractionAt
+  fraction-off e h = rw (byte-isn't s at e h)
+
+  pub fraction-in : fractionAt s at ≡ true → at < length s
+  unfolding fractionAt
+  fraction-in h = inside s at refl (eqb-true _ _ (fst _ _ h)) (omega arith)
+
+  -- 4. One sign stands inside
+  pub one-in : {w : ℕ} → w ≡ oneSign (byteAt s at) → (w ≡ 0 → ⊥) → at < length s
+  one-in e f = elim (decLt at (length s)) [ yes h ↦ h | no k ↦ absurd (f (e ∙ ap oneSign (byte-out s at (omega (arith, k))) ∙ one-none)) ]
+
+  -- 9. String, 10. Char
+  module _ (q w : ℕ) where
+    pub quote-none : {x : ℕ} → x ≡ byteAt s at → (x ≡ q → ⊥) → No ≡ quoteAt q w s at
+    unfolding quoteAt
+    quote-none e h = fails _ _ (not-first _ (byte-isn't s at e h))
+
+    module _ {close : ℕ} (to : close ≡ pastSpan (goesOn q) escapes false s (at + 1)) where
+      pub quote-open : length s ≤ close + 1 → No ≡ quoteAt q w s at
+      unfolding quoteAt
+      quote-open h = rw (← to) (fails-second (eqb (byteAt s at) q) _ _ (le-ltb _ _ h))
+
+      pub quote-fits : {x : ℕ} → x ≡ byteAt s at → x ≡ q → close + 1 < length s → To (close + 1) w ≡ quoteAt q w s at
+      unfolding quoteAt
+      quote-fits e h g = rw (← to) (fits (both (byte-is s at e h) (lt-ltb _ _ g)) refl refl)
+
+-- 3. Two signs: none past the end
+two-none : twoSign 256 256 ≡ 0
+unfolding twoSign twoSigns wordIn same
+two-none = refl
+
+pub two-out : (s : List ℕ) (at : ℕ) → length s ≤ at → No ≡ twoAt s at
+unfolding twoAt
+two-out s at h = no-sign (at + 2) refl (ap₂ twoSign (byte-out s at h) (byte-out s (at + 1) (omega (arith, h))) ∙ two-none)
+
+-- the scan for a closing quote
+quote-outside : (q : ℕ) (c : Bool) → goesOn q c 256 ≡ false
+quote-outside q c = not-second (c || not (eqb 256 q)) refl
+
+module _ (q : ℕ) (s : List ℕ) (i : ℕ) (c : Bool) {b : ℕ} {t : Bool} (read : b ≡ byteAt s i) (test : t ≡ goesOn q c b) where
+  said : {u : Bool} → t ≡ u → goesOn q c (byteAt s i) ≡ u
+  said e = ap (goesOn q c) (sym read) ∙ sym test ∙ e
+
+  pub quote-in : t ≡ true → i < length s
+  quote-in e = within (goesOn q c) (quote-outside q c) s i (said e)
+
+  pub quote-more : t ≡ true → {b′ : ℕ} → b′ ≡ byteAt s i → pastSpan (goesOn q) escapes (not c && eqb b′ 92) s (i + 1) ≡ pastSpan (goesOn q) escapes c s i
+  quote-more e f = rw f (span-more (goesOn q) escapes c (quote-outside q c) s i (said e))
+
+  pub quote-done : t ≡ false → i ≡ pastSpan (goesOn q) escapes c s i
+  quote-done e = sym (span-done (goesOn q) escapes c (quote-outside q c) s i (said e))
+
+-- the code of a word by the bounds of its rule
+module _ (w : ℕ) where
+  pub code-keyword : 60 ≤ w → 11 ≡ codeOf w
+  unfolding codeOf
+  code-keyword h = second _ (le-ltb w 20 (omega (arith, h))) (second _ (le-ltb w 40 (omega (arith, h))) (second _ (le-ltb w 60 h) refl))
+
+  pub code-one : w < 60 → 40 ≤ w → 4 ≡ codeOf w
+  unfolding codeOf
+  code-one k h = second _ (le-ltb w 20 (omega (arith, h))) (second _ (le-ltb w 40 h) (first _ (lt-ltb w 60 k) refl))
+
+  pub code-two : w < 40 → 20 ≤ w → 3 ≡ codeOf w
+  unfolding codeOf
+  code-two k h = second _ (le-ltb w 20 h) (first _ (lt-ltb w 40 k) refl)
+
+  pub code-under : w ≡ 14 → 13 ≡ codeOf w
+  unfolding codeOf
+  code-under h = rw h
+
+  pub code-same : w < 20 → (w ≡ 14 → ⊥) → w ≡ codeOf w
+  unfolding codeOf
+  code-same k h = first _ (lt-ltb w 20 k) (second _ (ne-eqb w 14 h) refl)
+
+-- a byte that was read is at most 256, where the elements are bytes
+pub byte-top : (s : List ℕ) (i : ℕ) {b : ℕ} → ((n : ℕ) → getD s n 0 < 256) → b ≡ byteAt s i → b ≤ 256
+byte-top s i small e = elim (decLt i (length s)) [ yes h ↦ omega (arith, small i, e ∙ byte-in s i h) | no k ↦ omega (arith, e ∙ byte-out s i (omega (arith, k))) ]

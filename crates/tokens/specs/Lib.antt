@@ -1,0 +1,4 @@
+pub mod Words
+pub mod Blanks
+pub mod Rules
+pub mod Tokens

@@ -1,0 +1,550 @@
+// Document 01's lexer: from bytes to tokens. It follows lexer.rs, function by function.
+ghost use mathlib.Core.Path.{_≡_};
+ghost use mathlib.Core.Bool.{false};
+ghost use Prim.Native.Nat.{_≤_, _<_};
+ghost use lib.ListN.{length};
+ghost use lib.Seq.{slice};
+ghost use Rattle.chars.specs.Runs.{pastSpan};
+ghost use Rattle.tokens.specs.Words.{codeOf, twoSign, oneSign, nameWord, lettersOf, keyIn, keywordKeys};
+ghost use Rattle.tokens.specs.Blanks.{pastComment, skipAll};
+ghost use Rattle.tokens.specs.Rules.{pairAt, ipv6At, periodAt, ipv4At, twoAt, oneAt, asAt, hexAt, fractionAt, numberAt, goesOn, escapes, quoteAt, isNameStart, nameAt, tokenAt, taken, refused};
+ghost use Rattle.tokens.specs.Tokens.{stepAt, bad, wholeOf, refusal, counted, lastOf, answerOf};
+use chars::Class;
+
+// A place in a source. A step hands back the next.
+pub struct Cursor {
+    pub at: usize,
+}
+
+pub struct Token {
+    pub code: u64,
+    pub start: usize,
+    pub end: usize,
+}
+
+pub struct Refusal {
+    pub number: u64,
+    pub start: usize,
+    pub end: usize,
+}
+
+// A token with its word and the next cursor; or a refusal: 4, 5, and 11 at the end.
+pub enum Step {
+    Taken(Token, u64, Cursor),
+    Refused(Refusal),
+}
+
+// How far a rule reaches, and the word it has found there.
+pub enum Fit {
+    To(usize, u64),
+    No,
+}
+
+// What is said of a source before it is read.
+pub enum Whole {
+    Fine,
+    Refused(Refusal),
+}
+
+pub struct Answer {
+    pub number: u64,
+    pub start: usize,
+    pub end: usize,
+    pub count: usize,
+}
+
+// Two bytes stand at a place.
+fn pair_at(s: &[u8], at: usize, a: u16, b: u16) -> bool
+    requires { ⌜ a < 256 ⌝ }
+    ensures { λ r. ⌜ r ≡ pairAt (now (s .entry)) at a b ⌝ }
+{
+    if chars::byte_at(s, at) == a {
+        chars::byte_at(s, at + 1) == b
+    } else {
+        false
+    }
+}
+
+// Past the newline of the line that a place is in, or at the end.
+fn past_comment(s: &[u8], at: usize) -> usize
+    ensures { λ r. ⌜ r ≡ pastComment (now (s .entry)) at ⌝ }
+{
+    let end = chars::past(s, at, Class::Line);
+    if end < s.len() { end + 1 } else { end }
+}
+
+fn skip_whitespace(s: &[u8], at: usize) -> usize
+    ensures { λ r. ⌜ r ≡ skipAll (now (s .entry)) at ⌝ }
+{
+    let mut i = chars::past(s, at, Class::Blank);
+    while pair_at(s, i, 47, 47) {
+        i = chars::past(s, past_comment(s, i), Class::Blank);
+    }
+    i
+}
+
+fn ipv6(s: &[u8], at: usize) -> Fit
+    ensures { λ r. ⌜ r ≡ ipv6At (now (s .entry)) at ⌝ }
+{
+    let a = chars::past(s, at, Class::HexDigit);
+    if chars::byte_at(s, a) != 58 {
+        return Fit::No;
+    }
+    let b = chars::past(s, a + 1, Class::HexDigit);
+    if chars::byte_at(s, b) != 58 {
+        return Fit::No;
+    }
+    Fit::To(chars::past(s, b + 1, Class::HexColon), 1)
+}
+
+// Digits and a period.
+fn period(s: &[u8], at: usize) -> Fit
+    ensures { λ r. ⌜ r ≡ periodAt (now (s .entry)) at ⌝ }
+{
+    if chars::is_digit(chars::byte_at(s, at)) {
+        let end = chars::past(s, at, Class::Digit);
+        if chars::byte_at(s, end) == 46 {
+            return Fit::To(end + 1, 2);
+        }
+    }
+    Fit::No
+}
+
+fn ipv4(s: &[u8], at: usize) -> Fit
+    ensures { λ r. ⌜ r ≡ ipv4At (now (s .entry)) at ⌝ }
+{
+    let Fit::To(a, _) = period(s, at) else {
+        return Fit::No;
+    };
+    let Fit::To(b, _) = period(s, a) else {
+        return Fit::No;
+    };
+    let Fit::To(c, _) = period(s, b) else {
+        return Fit::No;
+    };
+    Fit::To(chars::past(s, c, Class::Digit), 2)
+}
+
+// The word of two signs by one number for both bytes, 0 if they are none.
+fn two_sign(a: u16, b: u16) -> u64
+    requires { ⌜ (a ≤ 256) × (b ≤ 256) ⌝ }
+    ensures { λ r. ⌜ r ≡ twoSign a b ⌝ }
+{
+    let both = (a as u64) * 512 + (b as u64);
+    match both {
+        31293 => 20,
+        31294 => 21,
+        16957 => 22,
+        30781 => 23,
+        31805 => 24,
+        19494 => 25,
+        63612 => 26,
+        23102 => 27,
+        22077 => 28,
+        23101 => 29,
+        21565 => 30,
+        24125 => 31,
+        19005 => 32,
+        _ => 0,
+    }
+}
+
+fn two_char_punctuation(s: &[u8], at: usize) -> Fit
+    ensures { λ r. ⌜ r ≡ twoAt (now (s .entry)) at ⌝ }
+{
+    if at < s.len() {
+        let word = two_sign(chars::byte_at(s, at), chars::byte_at(s, at + 1));
+        if word != 0 {
+            return Fit::To(at + 2, word);
+        }
+    }
+    Fit::No
+}
+
+fn one_sign(b: u16) -> u64
+    ensures { λ r. ⌜ r ≡ oneSign b ⌝ }
+{
+    match b {
+        123 => 40,
+        125 => 41,
+        40 => 42,
+        41 => 43,
+        91 => 44,
+        93 => 45,
+        58 => 46,
+        59 => 47,
+        44 => 48,
+        46 => 49,
+        61 => 50,
+        63 => 51,
+        33 => 52,
+        45 => 53,
+        43 => 54,
+        42 => 55,
+        47 => 56,
+        37 => 57,
+        60 => 58,
+        62 => 59,
+        _ => 0,
+    }
+}
+
+fn one_char_punctuation(s: &[u8], at: usize) -> Fit
+    ensures { λ r. ⌜ r ≡ oneAt (now (s .entry)) at ⌝ }
+{
+    let word = one_sign(chars::byte_at(s, at));
+    if word != 0 {
+        Fit::To(at + 1, word)
+    } else {
+        Fit::No
+    }
+}
+
+fn as_number(s: &[u8], at: usize) -> Fit
+    ensures { λ r. ⌜ r ≡ asAt (now (s .entry)) at ⌝ }
+{
+    if pair_at(s, at, 65, 83) {
+        if chars::is_digit(chars::byte_at(s, at + 2)) {
+            return Fit::To(chars::past(s, at + 2, Class::Digit), 5);
+        }
+    }
+    Fit::No
+}
+
+fn hex_number(s: &[u8], at: usize) -> Fit
+    ensures { λ r. ⌜ r ≡ hexAt (now (s .entry)) at ⌝ }
+{
+    if pair_at(s, at, 48, 120) {
+        Fit::To(chars::past(s, at + 2, Class::HexDigit), 6)
+    } else {
+        Fit::No
+    }
+}
+
+// `.` and a digit.
+fn fraction_at(s: &[u8], at: usize) -> bool
+    ensures { λ r. ⌜ r ≡ fractionAt (now (s .entry)) at ⌝ }
+{
+    if chars::byte_at(s, at) == 46 {
+        chars::is_digit(chars::byte_at(s, at + 1))
+    } else {
+        false
+    }
+}
+
+fn number(s: &[u8], at: usize) -> Fit
+    ensures { λ r. ⌜ r ≡ numberAt (now (s .entry)) at ⌝ }
+{
+    if chars::is_digit(chars::byte_at(s, at)) {
+        let whole = chars::past(s, at, Class::Figure);
+        if fraction_at(s, whole) {
+            let end = chars::past(s, whole + 1, Class::Figure);
+            return Fit::To(chars::past(s, end, Class::NamePart), 8);
+        }
+        return Fit::To(chars::past(s, whole, Class::NamePart), 7);
+    }
+    Fit::No
+}
+
+fn goes_on(quote: u16, escaped: bool, b: u16) -> bool
+    ensures { λ r. ⌜ r ≡ goesOn quote escaped b ⌝ }
+{
+    (escaped | (b != quote)) & (b < 256)
+}
+
+// The place of the quote that closes what starts at `at`, or the end.
+fn closing(s: &[u8], at: usize, quote: u16) -> usize
+    ensures { λ r. ⌜ r ≡ pastSpan (goesOn quote) escapes false (now (s .entry)) at ⌝ }
+{
+    let mut i = at;
+    let mut escaped = false;
+    while goes_on(quote, escaped, chars::byte_at(s, i)) {
+        escaped = !escaped & (chars::byte_at(s, i) == 92);
+        i += 1;
+    }
+    i
+}
+
+// From a quote through the one that closes it, where the source goes on behind that.
+fn quoted(s: &[u8], at: usize, quote: u16, word: u64) -> Fit
+    requires { ⌜ quote < 256 ⌝ }
+    ensures { λ r. ⌜ r ≡ quoteAt quote word (now (s .entry)) at ⌝ }
+{
+    if chars::byte_at(s, at) == quote {
+        let close = closing(s, at + 1, quote);
+        if close < s.len() {
+            if close + 1 < s.len() {
+                return Fit::To(close + 1, word);
+            }
+        }
+    }
+    Fit::No
+}
+
+// Small letters from `a` to `end` as one number, the first lowest, 32 to a letter; 0 for other bytes or more than 9.
+fn letters(s: &[u8], a: usize, end: usize) -> u64
+    requires { ⌜ (a ≤ end) × (end ≤ length (now s)) ⌝ }
+    ensures { λ r. ⌜ r ≡ lettersOf (slice a end (now (s .entry))) ⌝ }
+{
+    if 9 < end - a {
+        return 0;
+    }
+    let mut number: u64 = 0;
+    let mut i = end;
+    while a < i {
+        let b = chars::byte_at(s, i - 1);
+        if b < 97 {
+            return 0;
+        }
+        if 122 < b {
+            return 0;
+        }
+        number = number * 32 + ((b - 96) as u64);
+        i -= 1;
+    }
+    number
+}
+
+// The 22 keywords in the order of keyword_or_ident, then `true` and `false`, by their letters' number.
+fn keyword(letters: u64) -> u64
+    ensures { λ r. ⌜ r ≡ keyIn keywordKeys letters 13 ⌝ }
+{
+    match letters {
+        688032865 => 60,
+        21608931 => 61,
+        16548 => 62,
+        183685 => 63,
+        447941 => 64,
+        609890598 => 65,
+        17641114317094 => 66,
+        18918 => 67,
+        454 => 68,
+        201 => 69,
+        690471337 => 70,
+        457 => 71,
+        20652 => 72,
+        8507437 => 73,
+        7536 => 74,
+        153586866 => 75,
+        674408626 => 76,
+        489345202 => 77,
+        4755 => 78,
+        19055283 => 79,
+        674996 => 80,
+        5645591 => 81,
+        185940 => 12,
+        5877798 => 12,
+        _ => 13,
+    }
+}
+
+fn name_word(s: &[u8], a: usize, end: usize) -> u64
+    requires { ⌜ (a < end) × (end ≤ length (now s)) ⌝ }
+    ensures { λ r. ⌜ r ≡ nameWord (slice a end (now (s .entry))) ⌝ }
+{
+    if end - a == 1 {
+        if chars::byte_at(s, a) == 95 {
+            return 14;
+        }
+    }
+    keyword(letters(s, a, end))
+}
+
+fn is_name_start(b: u16) -> bool
+    ensures { λ r. ⌜ r ≡ isNameStart b ⌝ }
+{
+    chars::is_letter(b) | (b == 95)
+}
+
+fn keyword_or_ident(s: &[u8], at: usize) -> Fit
+    ensures { λ r. ⌜ r ≡ nameAt (now (s .entry)) at ⌝ }
+{
+    if is_name_start(chars::byte_at(s, at)) {
+        let end = chars::past(s, at, Class::NamePart);
+        Fit::To(end, name_word(s, at, end))
+    } else {
+        Fit::No
+    }
+}
+
+// The number of the rule that a word stands in.
+fn code_of(word: u64) -> u64
+    ensures { λ r. ⌜ r ≡ codeOf word ⌝ }
+{
+    if 60 <= word {
+        return 11;
+    }
+    if 40 <= word {
+        return 4;
+    }
+    if 20 <= word {
+        return 3;
+    }
+    if word == 14 {
+        return 13;
+    }
+    word
+}
+
+fn bump(start: usize, end: usize, word: u64) -> Step
+    ensures { λ r. ⌜ r ≡ taken start end word ⌝ }
+{
+    let code = code_of(word);
+    Step::Taken(Token { code, start, end }, word, Cursor { at: end })
+}
+
+fn refuse(number: u64, start: usize, end: usize) -> Step
+    ensures { λ r. ⌜ r ≡ refused number start end ⌝ }
+{
+    Step::Refused(Refusal { number, start, end })
+}
+
+// The first rule that fits, at a place inside the source.
+fn next_token(s: &[u8], at: usize) -> Step
+    requires { ⌜ at < length (now s) ⌝ }
+    ensures { λ r. ⌜ r ≡ tokenAt (now (s .entry)) at ⌝ }
+{
+    if let Fit::To(end, word) = ipv6(s, at) {
+        return bump(at, end, word);
+    }
+    if let Fit::To(end, word) = ipv4(s, at) {
+        return bump(at, end, word);
+    }
+    if let Fit::To(end, word) = two_char_punctuation(s, at) {
+        return bump(at, end, word);
+    }
+    if let Fit::To(end, word) = one_char_punctuation(s, at) {
+        return bump(at, end, word);
+    }
+    if let Fit::To(end, word) = as_number(s, at) {
+        return bump(at, end, word);
+    }
+    if let Fit::To(end, word) = hex_number(s, at) {
+        return bump(at, end, word);
+    }
+    if let Fit::To(end, word) = number(s, at) {
+        return bump(at, end, word);
+    }
+    if pair_at(s, at, 102, 34) {
+        return refuse(5, at, at + 2);
+    }
+    if let Fit::To(end, word) = quoted(s, at, 34, 9) {
+        return bump(at, end, word);
+    }
+    if let Fit::To(end, word) = quoted(s, at, 39, 10) {
+        return bump(at, end, word);
+    }
+    if let Fit::To(end, word) = keyword_or_ident(s, at) {
+        return bump(at, end, word);
+    }
+    refuse(4, at, at + 1)
+}
+
+impl Cursor {
+    pub fn new() -> Cursor
+        ensures { λ r. ⌜ r .at ≡ 0 ⌝ }
+    {
+        Cursor { at: 0 }
+    }
+
+    // What stands behind the blanks and comments at the cursor.
+    pub fn step(self, s: &[u8]) -> Step
+        ensures { λ r. ⌜ r ≡ stepAt (now (s .entry)) (self .at) ⌝ }
+    {
+        let at = skip_whitespace(s, self.at);
+        if at < s.len() {
+            next_token(s, at)
+        } else {
+            refuse(11, s.len(), s.len())
+        }
+    }
+}
+
+fn refuse_source(number: u64, start: usize, end: usize) -> Whole
+    ensures { λ r. ⌜ r ≡ bad number start end ⌝ }
+{
+    Whole::Refused(Refusal { number, start, end })
+}
+
+// What is refused of a source as a whole, before a token of it is read.
+pub fn check_source(s: &[u8]) -> Whole
+    ensures { λ r. ⌜ r ≡ wholeOf (now (s .entry)) ⌝ }
+{
+    if 65535 < s.len() {
+        return refuse_source(1, 65535, 65535);
+    }
+    let high = chars::past(s, 0, Class::Ascii);
+    if high < s.len() {
+        return refuse_source(2, high, high + 1);
+    }
+    if pair_at(s, 0, 35, 33) {
+        return refuse_source(3, 0, 2);
+    }
+    Whole::Fine
+}
+
+fn refused_answer(r: Refusal) -> Answer
+    ensures { λ a. ⌜ a ≡ refusal r ⌝ }
+{
+    Answer {
+        number: r.number,
+        start: r.start,
+        end: r.end,
+        count: 0,
+    }
+}
+
+fn counted_answer(length: usize, count: usize, room: usize) -> Answer
+    ensures { λ r. ⌜ r ≡ counted length count room ⌝ }
+{
+    if count <= room {
+        Answer {
+            number: 0,
+            start: 0,
+            end: length,
+            count,
+        }
+    } else {
+        Answer {
+            number: 10,
+            start: 0,
+            end: 0,
+            count,
+        }
+    }
+}
+
+// The answer where the tokens end: at the source's end, or before it.
+fn last_answer(step: Step, length: usize, count: usize, room: usize) -> Answer
+    ensures { λ r. ⌜ r ≡ lastOf step length count room ⌝ }
+{
+    match step {
+        Step::Taken(_, _, _) => counted_answer(length, count, room),
+        Step::Refused(r) => {
+            if r.number == 11 {
+                counted_answer(length, count, room)
+            } else {
+                refused_answer(r)
+            }
+        }
+    }
+}
+
+// The answer of (c) to a source, with room for so many tokens.
+pub fn count_tokens(s: &[u8], room: usize) -> Answer
+    ensures { λ r. ⌜ r ≡ answerOf (now (s .entry)) room ⌝ }
+{
+    if let Whole::Refused(r) = check_source(s) {
+        return refused_answer(r);
+    }
+    let mut cursor = Cursor::new();
+    let mut count: usize = 0;
+    loop {
+        let step = cursor.step(s);
+        let Step::Taken(_, _, next) = step else {
+            return last_answer(step, s.len(), count, room);
+        };
+        cursor = next;
+        count += 1;
+    }
+}

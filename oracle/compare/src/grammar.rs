@@ -1,0 +1,469 @@
+//! Texts of document 01's grammar for entries (a) and (b), some nested as deep as its limits, and damaged ones.
+
+use crate::{lexing, random::Random, run::Sink, texts};
+
+/// A token of each kind that the parser tells apart, a literal without a value, and what is no token.
+const TOKENS: [&str; 56] = [
+    "a", "_", "1", "1.5", "0x1", "AS1", "1.2.3.4", "::1", "\"s\"", "'c'", "true", "pkg", "std", "{", "}",
+    "(", ")", "[", "]", ":", ";", ",", ".", "=", "+=", "%=", "==", "<", "=>", "->", "?", "!", "-", "+", "*",
+    "&&", "||", "if", "else", "while", "for", "in", "match", "let", "import", "return", "accept", "const",
+    "fn", "filter", "test", "record", "0x", "f\"", "$", "'' ",
+];
+
+/// Every text of up to so many of these tokens; a list of the caller's own instead if there is one.
+pub fn tokens(sink: &mut Sink, entry: u8, longest: usize, list: &str, frame: (&[u8], &[u8])) {
+    let own: Vec<&[u8]> = list.split(' ').filter(|word| !word.is_empty()).map(str::as_bytes).collect();
+    let all: Vec<&[u8]> = TOKENS.iter().map(|text| text.as_bytes()).collect();
+    let parts = if own.is_empty() { all } else { own };
+    lexing::joined(sink, entry, &parts, longest, b" ", frame);
+}
+
+pub fn random(sink: &mut Sink, entry: Option<u8>, count: u64, seed: u64, damaged: bool) {
+    let mut r = Random::new(seed);
+    for i in 0..count {
+        if !sink.wanted() {
+            return;
+        }
+        let entry = entry.unwrap_or(if i % 2 == 0 { b'a' } else { b'b' });
+        let mut source = one(&mut r, entry);
+        if damaged {
+            for _ in 0..1 + r.below(2) {
+                texts::damage(&mut r, &mut source);
+            }
+        }
+        let room = if r.once_in(8) { Some(r.below(40) as u64) } else { None };
+        sink.case(entry, &source, room);
+    }
+}
+
+fn one(r: &mut Random, entry: u8) -> Vec<u8> {
+    let budget = [3, 6, 12, 40, 200][r.below(5)];
+    let mut text = Text { r, out: Vec::new(), budget, ban: false };
+    if entry == b'b' {
+        match text.r.once_in(6) {
+            true => text.nested(),
+            false => text.expr(),
+        }
+    } else if text.r.once_in(8) {
+        text.put("fn f() { 0;");
+        text.nested();
+        text.put("}");
+    } else {
+        text.times(4, Text::declaration);
+    }
+    text.out
+}
+
+struct Text<'a> {
+    r: &'a mut Random,
+    out: Vec<u8>,
+    /// Falls with each expr, type and statement; at 0 only the smallest are made.
+    budget: usize,
+    /// Whether records are banned where we stand.
+    ban: bool,
+}
+
+impl Text<'_> {
+    /// A token and what may stand before it: a blank or a comment, or nothing beside a bracket, comma or `;`.
+    fn put(&mut self, token: &str) {
+        const ALONE: &[u8] = b"(){}[],;";
+        let beside = |byte: Option<&u8>| byte.is_none_or(|byte| ALONE.contains(byte));
+        let glued = beside(self.out.last()) || beside(token.as_bytes().first());
+        match self.r.below(16) {
+            0 => self.out.extend_from_slice(b"\n"),
+            1 => self.out.extend_from_slice(b" //c\n"),
+            2..=7 if glued => {}
+            _ => self.out.push(b' '),
+        }
+        self.out.extend_from_slice(token.as_bytes());
+    }
+
+    fn words(&mut self, list: &[&str]) {
+        let word = self.r.pick(list);
+        self.put(word);
+    }
+
+    fn spend(&mut self) -> bool {
+        self.budget = self.budget.saturating_sub(1);
+        self.budget > 0
+    }
+
+    fn times(&mut self, most: usize, mut what: impl FnMut(&mut Self)) {
+        for _ in 0..self.r.below(most + 1) {
+            what(self);
+        }
+    }
+
+    /// A list between brackets, perhaps with a comma at its end.
+    fn list(&mut self, open: &str, close: &str, least: usize, mut item: impl FnMut(&mut Self)) {
+        let ban = std::mem::replace(&mut self.ban, false);
+        self.put(open);
+        let many = least + if self.budget > 0 { self.r.below(3) } else { 0 };
+        for i in 0..many {
+            if i > 0 {
+                self.put(",");
+            }
+            item(self);
+        }
+        if many > 0 && self.r.once_in(4) {
+            self.put(",");
+        }
+        self.put(close);
+        self.ban = ban;
+    }
+
+    fn declaration(&mut self) {
+        match self.r.below(6) {
+            0 => {
+                self.put("const");
+                self.name();
+                self.put(":");
+                self.type_expr();
+                self.put("=");
+                self.expr();
+                self.put(";");
+            }
+            1 | 2 => {
+                self.put("fn");
+                self.name();
+                self.list("(", ")", 0, Self::name_with_type);
+                if self.r.once_in(2) {
+                    self.put("->");
+                    self.type_expr();
+                }
+                self.block();
+            }
+            3 => {
+                self.words(&["filter", "filtermap"]);
+                self.name();
+                self.list("(", ")", 0, Self::name_with_type);
+                self.block();
+            }
+            4 => {
+                self.put("test");
+                self.name();
+                self.block();
+            }
+            _ => self.import(),
+        }
+    }
+
+    fn import(&mut self) {
+        self.put("import");
+        self.import_path();
+        self.put(";");
+    }
+
+    fn import_path(&mut self) {
+        self.path();
+        if self.spend() && self.r.once_in(3) {
+            self.put(".");
+            self.put("{");
+            self.import_path();
+            self.times(2, |text| {
+                text.put(",");
+                text.import_path();
+            });
+            self.put("}");
+        }
+    }
+
+    fn name(&mut self) {
+        self.words(&["a", "b", "x1", "_", "_y", "route", "A", "filt"]);
+    }
+
+    fn path(&mut self) {
+        let items = ["a", "b", "route", "pkg", "dep", "super", "std", "_"];
+        self.words(&items);
+        self.times(2, |text| {
+            text.put(".");
+            text.words(&items);
+        });
+    }
+
+    fn name_with_type(&mut self) {
+        self.name();
+        self.put(":");
+        self.type_expr();
+    }
+
+    fn type_expr(&mut self) {
+        let deep = self.spend();
+        match self.r.below(if deep { 7 } else { 5 }) {
+            0 => self.put("!"),
+            1 => {
+                self.put("(");
+                self.put(")");
+            }
+            5 => self.list("{", "}", 0, Self::name_with_type),
+            6 => {
+                self.path();
+                self.list("[", "]", 0, Self::type_expr);
+            }
+            _ => self.path(),
+        }
+        if self.r.once_in(4) {
+            self.put("?");
+        }
+    }
+
+    fn block(&mut self) {
+        let ban = std::mem::replace(&mut self.ban, false);
+        self.put("{");
+        if self.budget > 0 {
+            self.times(3, Self::statement);
+        }
+        if self.r.once_in(2) {
+            self.expr();
+        }
+        self.put("}");
+        self.ban = ban;
+    }
+
+    fn statement(&mut self) {
+        match self.r.below(8) {
+            0 => self.import(),
+            1 | 2 => {
+                self.put("let");
+                self.name();
+                if self.r.once_in(2) {
+                    self.put(":");
+                    self.type_expr();
+                }
+                self.put("=");
+                self.expr();
+                self.put(";");
+            }
+            3 | 4 => {
+                self.head();
+                if self.r.once_in(3) {
+                    self.put(";");
+                }
+            }
+            _ => {
+                self.expr();
+                self.put(";");
+            }
+        }
+    }
+
+    fn expr(&mut self) {
+        match self.r.below(10) {
+            0 => {
+                self.words(&["return", "accept", "reject"]);
+                if self.ban || !self.r.once_in(3) {
+                    self.expr();
+                }
+            }
+            1 => {
+                self.target();
+                self.words(&["=", "+=", "-=", "*=", "/=", "%="]);
+                self.binary();
+            }
+            _ => self.binary(),
+        }
+    }
+
+    fn target(&mut self) {
+        if self.r.once_in(4) {
+            self.put("(");
+            self.target();
+            self.put(")");
+        } else {
+            self.path();
+        }
+    }
+
+    fn binary(&mut self) {
+        self.level(0);
+    }
+
+    /// Operators of one level, loosest first; the third is not chained.
+    fn level(&mut self, level: usize) {
+        const LEVELS: [&[&str]; 5] =
+            [&["||"], &["&&"], &["==", "!=", "<", "<=", ">", ">="], &["+", "-"], &["*", "/", "%"]];
+        if level == LEVELS.len() {
+            return self.operand();
+        }
+        self.level(level + 1);
+        while self.r.once_in(6) && self.spend() {
+            self.words(LEVELS[level]);
+            self.level(level + 1);
+            if level == 2 {
+                break;
+            }
+        }
+    }
+
+    fn operand(&mut self) {
+        while self.r.once_in(6) {
+            self.words(&["!", "-"]);
+        }
+        self.atom();
+        while self.r.once_in(4) {
+            match self.r.below(3) {
+                0 => self.put("?"),
+                1 => self.list("(", ")", 0, Self::expr),
+                _ => {
+                    self.put(".");
+                    self.name();
+                }
+            }
+        }
+    }
+
+    fn atom(&mut self) {
+        let deep = self.spend();
+        match self.r.below(if deep { 10 } else { 4 }) {
+            0 | 1 => self.literal(),
+            4 | 5 => {
+                let ban = std::mem::replace(&mut self.ban, false);
+                self.put("(");
+                self.expr();
+                self.put(")");
+                self.ban = ban;
+            }
+            6 => self.block(),
+            7 => self.head(),
+            8 if !self.ban => {
+                self.path();
+                self.list("{", "}", 0, Self::field);
+            }
+            9 if !self.ban => self.list("{", "}", 1, Self::field),
+            _ => self.path(),
+        }
+    }
+
+    fn field(&mut self) {
+        self.name();
+        self.put(":");
+        self.expr();
+    }
+
+    fn literal(&mut self) {
+        self.words(&[
+            "1",
+            "0",
+            "12_3u8",
+            "1f32",
+            "1.5",
+            "2.5f64",
+            "0xff",
+            "AS65000",
+            "10.0.0.1",
+            "::1",
+            "2001:db8::",
+            "\"s\" ",
+            "'c'",
+            "true",
+            "false",
+            "\"\\n\\u{41}\" ",
+        ]);
+    }
+
+    fn headed(&mut self, what: fn(&mut Self)) {
+        let ban = std::mem::replace(&mut self.ban, true);
+        what(self);
+        self.ban = ban;
+    }
+
+    fn head(&mut self) {
+        match self.r.below(5) {
+            0 | 1 => self.if_else(),
+            2 => {
+                self.put("while");
+                self.headed(Self::expr);
+                self.block();
+            }
+            3 => {
+                self.put("for");
+                self.name();
+                self.put("in");
+                self.headed(Self::expr);
+                self.block();
+            }
+            _ => {
+                self.put("match");
+                self.headed(Self::expr);
+                let ban = std::mem::replace(&mut self.ban, false);
+                self.put("{");
+                self.times(3, Self::arm);
+                self.put("}");
+                self.ban = ban;
+            }
+        }
+    }
+
+    fn if_else(&mut self) {
+        self.put("if");
+        self.headed(Self::expr);
+        self.block();
+        if self.r.once_in(3) {
+            self.put("else");
+            match self.spend() && self.r.once_in(2) {
+                true => self.if_else(),
+                false => self.block(),
+            }
+        }
+    }
+
+    fn arm(&mut self) {
+        self.words(&["a", "Some", "_", "__"]);
+        if !self.out.ends_with(b" _") && self.r.once_in(3) {
+            self.list("(", ")", 0, Self::name);
+        }
+        if self.r.once_in(4) {
+            self.put("if");
+            self.expr();
+        }
+        self.put("=>");
+        if self.r.once_in(2) {
+            self.block();
+            if self.r.once_in(2) {
+                self.put(",");
+            }
+        } else {
+            self.expr();
+            self.put(",");
+        }
+    }
+
+    /// Up to three layers of one form, each about as many deep as a limit allows.
+    fn nested(&mut self) {
+        const FORMS: [(&str, &str); 20] = [
+            ("(", ")"),
+            ("{", "}"),
+            ("f(", ")"),
+            ("{a: ", "}"),
+            ("a{b: ", "}"),
+            ("!", ""),
+            ("-", ""),
+            ("a-", ""),
+            ("return ", ""),
+            ("accept !", ""),
+            ("if ", "{}"),
+            ("while ", "{}"),
+            ("for a in ", "{}"),
+            ("match ", "{}"),
+            ("if a {", "}"),
+            ("if (", ") {}"),
+            ("match a {b => ", "}"),
+            ("match a {b if ", " => 1}"),
+            ("if a {} else ", ""),
+            ("{let a: b[c] = ", ";}"),
+        ];
+        let mut ends = Vec::new();
+        for _ in 0..1 + self.r.below(3) {
+            let (open, close) = FORMS[self.r.below(FORMS.len())];
+            let many = [1, 15, 16, 17, 30, 31, 32, 33, 34][self.r.below(9)];
+            for _ in 0..many {
+                self.out.extend_from_slice(open.as_bytes());
+                ends.push(close);
+            }
+        }
+        self.words(&["a", "1", "(a)", "b.c", "f(a)", "if a {}", "return", "a{}", "{}", ")", "()"]);
+        for close in ends.iter().rev() {
+            self.out.extend_from_slice(close.as_bytes());
+        }
+    }
+}

@@ -1,0 +1,144 @@
+//! Cases made up in many ways, answered by two programs, compared.
+
+mod grammar;
+mod lexing;
+mod random;
+mod run;
+mod sample;
+mod texts;
+mod values;
+
+use run::{Options, Sink};
+
+const USAGE: &str = "\
+compare LEFT RIGHT [OPTION ..] MODE ..   compares two programs that speak the protocol of oracle/README.md
+compare sample COUNT SEED PROGRAM ..     prints cases of entry (c) with PROGRAM's answers (see vectors/README.md)
+
+LEFT and RIGHT: oracle, full, ours (by tools/batch), or the path of a program.
+Modes:
+  exhaustive ALPHABET LONGEST    every text of up to LONGEST bytes; \\n \\t \\r \\\\ \\xHH stand for bytes
+  tokens LONGEST                 every text of up to LONGEST tokens of a fixed list, a space between
+  random COUNT SEED              tokens, near misses, blanks and comments, damage (made for entry c)
+  valid COUNT SEED               texts of document 01's grammar, some at its limits (entries a and b)
+  damaged COUNT SEED             such texts, damaged
+  values COUNT SEED              single literals, good and bad (entry b; strings by e too)
+Options:
+  -e ENTRY        a, b, c or e (else c for exhaustive and random, b for tokens, a and b by turns for the others)
+  --list TOKENS   tokens for `tokens` instead of its own, a space between
+  --before TEXT   put before each text of `tokens`
+  --after TEXT    put after it
+  --classes       differences gathered by kind, each with its first input
+  --spoil N       every Nth answer of RIGHT is changed first: that many differences must be found
+";
+
+fn usage() -> ! {
+    eprint!("{USAGE}");
+    std::process::exit(2);
+}
+
+fn number<T: std::str::FromStr>(text: &str) -> T {
+    text.parse().unwrap_or_else(|_| usage())
+}
+
+/// A text with `\n` and the like as bytes.
+fn bytes(text: &str) -> Vec<u8> {
+    let mut out = Vec::new();
+    let mut rest = text.bytes();
+    while let Some(byte) = rest.next() {
+        if byte != b'\\' {
+            out.push(byte);
+            continue;
+        }
+        out.push(match rest.next() {
+            Some(b'n') => b'\n',
+            Some(b't') => b'\t',
+            Some(b'r') => b'\r',
+            Some(b'\\') => b'\\',
+            Some(b'x') => {
+                let digits: Vec<u8> = rest.by_ref().take(2).collect();
+                let digits = String::from_utf8(digits).unwrap_or_default();
+                u8::from_str_radix(&digits, 16).unwrap_or_else(|_| usage())
+            }
+            _ => usage(),
+        });
+    }
+    out
+}
+
+/// The command for a program: by its short name through tools/batch beside this repository's oracle folder.
+fn program(name: &str) -> Vec<String> {
+    match name {
+        "oracle" | "full" | "ours" => {
+            let batch = concat!(env!("CARGO_MANIFEST_DIR"), "/../../tools/batch");
+            vec![batch.to_string(), name.to_string()]
+        }
+        path => vec![path.to_string()],
+    }
+}
+
+struct Arguments {
+    options: Options,
+    entry: Option<u8>,
+    list: String,
+    before: Vec<u8>,
+    after: Vec<u8>,
+    mode: Vec<String>,
+}
+
+fn arguments(words: &[String]) -> Arguments {
+    let mut rest = words.iter();
+    let mut word = || rest.next().cloned();
+    let programs = [program(&word().unwrap_or_else(|| usage())), program(&word().unwrap_or_else(|| usage()))];
+    let options = Options { programs, spoil: None, classes: false };
+    let mut all =
+        Arguments { options, entry: None, list: String::new(), before: vec![], after: vec![], mode: vec![] };
+    while let Some(next) = word() {
+        let mut value = || word().unwrap_or_else(|| usage());
+        match next.as_str() {
+            "-e" => all.entry = value().bytes().next(),
+            "--list" => all.list = value(),
+            "--before" => all.before = bytes(&value()),
+            "--after" => all.after = bytes(&value()),
+            "--spoil" => all.options.spoil = Some(number(&value())),
+            "--classes" => all.options.classes = true,
+            _ => all.mode.push(next),
+        }
+    }
+    all
+}
+
+fn generate(all: &Arguments, sink: &mut Sink) {
+    let mode: Vec<&str> = all.mode.iter().map(String::as_str).collect();
+    let entry = all.entry;
+    match mode[..] {
+        ["exhaustive", alphabet, longest] => {
+            lexing::exhaustive(sink, entry.unwrap_or(b'c'), &bytes(alphabet), number(longest))
+        }
+        ["tokens", longest] => {
+            let frame = (&all.before[..], &all.after[..]);
+            grammar::tokens(sink, entry.unwrap_or(b'b'), number(longest), &all.list, frame)
+        }
+        ["random", count, seed] => lexing::random(sink, entry.unwrap_or(b'c'), number(count), number(seed)),
+        ["valid", count, seed] => grammar::random(sink, entry, number(count), number(seed), false),
+        ["damaged", count, seed] => grammar::random(sink, entry, number(count), number(seed), true),
+        ["values", count, seed] => values::random(sink, entry, number(count), number(seed)),
+        _ => usage(),
+    }
+}
+
+fn main() {
+    let words: Vec<String> = std::env::args().skip(1).collect();
+    if words.first().is_some_and(|word| word == "sample") && words.len() > 3 {
+        sample::print(number(&words[1]), number(&words[2]), &words[3..]);
+        return;
+    }
+    if words.len() < 3 {
+        usage();
+    }
+    let all = arguments(&words);
+    let begun = std::time::Instant::now();
+    let report = run::run(&all.options, |sink| generate(&all, sink));
+    report.print();
+    println!("{:.1} seconds", begun.elapsed().as_secs_f64());
+    std::process::exit(i32::from(report.differences > 0));
+}

@@ -1,0 +1,167 @@
+//! Answers of the four entry points from the Rust's lexer and parser, for both programs.
+
+use std::panic::{AssertUnwindSafe, catch_unwind};
+
+use protocol::{Case, Found, Refusal, serve, time, write_bytes, write_refusal, write_rows};
+
+use crate::{
+    ast::{Expr, Literal},
+    parser::{
+        ParseError, Parser,
+        lexer::Lexer,
+        meta::{Meta, Spans},
+        token::Token,
+    },
+    rows,
+};
+
+/// Recursion in the Rust goes as deep as the source nests; nothing of this is touched before it is needed.
+const STACK: usize = 2 << 30;
+
+/// Number of an answer that the commit's code did not live to give.
+const FAILED: u64 = 99;
+
+/// What a program tests of a source as a whole before anything reads it.
+pub type WholeSource = fn(&[u8]) -> Result<&str, Refusal>;
+
+pub fn run(whole: WholeSource) -> std::io::Result<()> {
+    let arguments: Vec<String> = std::env::args().skip(1).collect();
+    if arguments.first().is_some_and(|word| word == "time") {
+        return time(&arguments[1..], |source| {
+            whole(source).and_then(tokens).map_or(0, |list| list.len() as u64)
+        });
+    }
+    std::panic::set_hook(Box::new(|_| {}));
+    std::thread::Builder::new()
+        .stack_size(STACK)
+        .spawn(move || serve(|case, out| answer(whole, case, out)))?
+        .join()
+        .expect("every failure is caught where a case is answered")
+}
+
+fn answer(whole: WholeSource, case: &Case<'_>, out: &mut String) {
+    let length = case.source.len();
+    let done = catch_unwind(AssertUnwindSafe(|| match case.entry {
+        b'e' => write_bytes(out, decoded(whole, case.source).as_deref().map_err(|r| *r), case.room),
+        b'c' => write_rows(out, &found(whole(case.source), tokens), case.room),
+        b'b' => write_rows(out, &found(whole(case.source), expression), case.room),
+        _ => write_rows(out, &found(whole(case.source), tree), case.room),
+    }));
+    if done.is_err() {
+        out.clear();
+        write_refusal(out, Refusal::new(FAILED, 0, length));
+    }
+    // SAFETY: the trees of this case are gone.
+    unsafe { symbol_table::forget_names() };
+}
+
+fn found<const N: usize>(
+    source: Result<&str, Refusal>,
+    read: fn(&str) -> Result<Vec<[u64; N]>, Refusal>,
+) -> Found<N> {
+    match source.and_then(read) {
+        Ok(rows) => Found::Rows(rows),
+        Err(refusal) => Found::Refused(refusal),
+    }
+}
+
+/// (c): source to a token list.
+fn tokens(source: &str) -> Result<Vec<[u64; 3]>, Refusal> {
+    let mut lexer = Lexer::new(0, source);
+    let mut list = Vec::new();
+    while let Some((token, span)) = lexer.next() {
+        match token {
+            Ok(token) => list.push([code(&token), span.start as u64, span.end as u64]),
+            Err(()) => return Err(no_token(source, span.start, span.end)),
+        }
+    }
+    Ok(list)
+}
+
+/// (b): source to one expression.
+fn expression(source: &str) -> Result<Vec<[u64; 6]>, Refusal> {
+    let (expr, spans) = parsed(source)?;
+    Ok(rows::expression(&spans, &expr))
+}
+
+/// (a): source to tree.
+fn tree(source: &str) -> Result<Vec<[u64; 6]>, Refusal> {
+    let mut spans = Spans::default();
+    let (tree, _) = Parser::parse(0, &mut spans, source).map_err(|e| refusal(source, &e))?;
+    Ok(rows::tree(&spans, source, &tree))
+}
+
+/// (e): a string token decoded to bytes. The token may be the last of a source only with a byte after it.
+fn decoded(whole: WholeSource, token: &[u8]) -> Result<Vec<u8>, Refusal> {
+    let refused = Refusal::new(7, 0, token.len());
+    whole(token).map_err(|_| refused)?;
+    let source = String::from_utf8([token, b" "].concat()).map_err(|_| refused)?;
+    let mut lexer = Lexer::new(0, &source);
+    let first = lexer.next();
+    if !matches!(first, Some((Ok(Token::String(_)), span)) if span == (0..token.len())) {
+        return Err(refused);
+    }
+    match parsed(&source).map_err(|_| refused)?.0.node {
+        Expr::Literal(Meta { node: Literal::String(text), .. }) => Ok(text.into_bytes()),
+        _ => Err(refused),
+    }
+}
+
+fn parsed(source: &str) -> Result<(Meta<Expr>, Spans), Refusal> {
+    let mut spans = Spans::default();
+    let read = Parser::run_parser(|p| p.expr(), 0, &mut spans, source);
+    let (expr, _) = read.map_err(|e| refusal(source, &e))?;
+    Ok((expr, spans))
+}
+
+fn refusal(source: &str, error: &ParseError) -> Refusal {
+    let (start, end) = (error.location.start, error.location.end);
+    // What is left over may be no token at all, and then that is said first.
+    let left = source.get(start..).and_then(|tail| Lexer::new(0, tail).next());
+    match (error.number(), left) {
+        (4, _) => no_token(source, start, end),
+        (6, Some((Err(()), _))) => no_token(source, start, end),
+        (number, _) => Refusal::new(number, start, end),
+    }
+}
+
+/// 4 where no token starts, 5 for `f"`. A byte `f` begins a token otherwise, so the two can't be mixed up.
+fn no_token(source: &str, start: usize, end: usize) -> Refusal {
+    let number = if source[start..].starts_with("f\"") { 5 } else { 4 };
+    Refusal::new(number, start, end)
+}
+
+/// The number of the rule that fits: document 01's codes 1 to 13, 90 for the commit's `f"`.
+fn code(token: &Token<'_>) -> u64 {
+    match token {
+        Token::IpV6(_) => 1,
+        Token::IpV4(_) => 2,
+        Token::EqEq
+        | Token::FatArrow
+        | Token::BangEq
+        | Token::AngleLeftEq
+        | Token::AngleRightEq
+        | Token::AmpAmp
+        | Token::PipePipe
+        | Token::Arrow
+        | Token::PlusEq
+        | Token::MinusEq
+        | Token::StarEq
+        | Token::SlashEq
+        | Token::PercentEq
+        | Token::StarStar
+        | Token::SlashStar
+        | Token::HyphenHyphen => 3,
+        Token::Asn(_) => 5,
+        Token::Hex(_) => 6,
+        Token::Integer(..) => 7,
+        Token::Float(..) => 8,
+        Token::String(_) => 9,
+        Token::Char(_) => 10,
+        Token::Keyword(_) => 11,
+        Token::Bool(_) => 12,
+        Token::Ident(_) => 13,
+        Token::FStringStart => 90,
+        _ => 4,
+    }
+}

@@ -1,0 +1,25 @@
+//! The full commit, unchanged, behind the protocol.
+#![allow(dead_code)]
+
+#[path = "../answer.rs"]
+mod answer;
+#[path = "../../../build/full/ast.rs"]
+mod ast;
+#[path = "../../../build/full/parser/mod.rs"]
+mod parser;
+#[path = "../rows.rs"]
+mod rows;
+
+use protocol::Refusal;
+
+/// The commit takes any text; bytes that are none have no answer there, and are given as 2 at the first of them.
+fn whole(source: &[u8]) -> Result<&str, Refusal> {
+    std::str::from_utf8(source).map_err(|e| {
+        let at = e.valid_up_to();
+        Refusal::new(2, at, at + 1)
+    })
+}
+
+fn main() -> std::io::Result<()> {
+    answer::run(whole)
+}

@@ -1,0 +1,88 @@
+//! Our own code behind the protocol: the compiled Rattle library, called as C calls it.
+
+use protocol::{Case, Refusal, serve, time, write_no_room, write_refusal, write_row};
+
+mod word;
+
+unsafe extern "C" {
+    /// out: number, start, end, count of entry (c).
+    fn lekhyundo_tokens(source: *const u8, length: usize, room: u64, out: *mut u64, out_length: usize);
+    /// out: 0 for a token, else 4, 5 or 11; start; end; code; word number.
+    fn lekhyundo_step(source: *const u8, length: usize, at: u64, out: *mut u64, out_length: usize);
+}
+
+fn tokens(source: &[u8], room: u64) -> [u64; 4] {
+    let mut out = [u64::MAX; 4];
+    // SAFETY: both pointers are to that many elements, and the library keeps neither.
+    unsafe { lekhyundo_tokens(source.as_ptr(), source.len(), room, out.as_mut_ptr(), out.len()) };
+    out
+}
+
+fn step(source: &[u8], at: u64) -> [u64; 5] {
+    let mut out = [u64::MAX; 5];
+    // SAFETY: as above.
+    unsafe { lekhyundo_step(source.as_ptr(), source.len(), at, out.as_mut_ptr(), out.len()) };
+    out
+}
+
+/// (c): the whole list's answer, and the tokens one by one, each step from the last token's end.
+fn token_list(case: &Case<'_>, out: &mut String) {
+    let [number, start, end, count] = tokens(case.source, case.room);
+    match number {
+        0 => out.push_str(&format!("accepted {count}\n")),
+        10 => write_no_room(out, count),
+        _ => write_refusal(out, Refusal { number, start, end }),
+    }
+    let place_fits = match number {
+        0 => (start, end) == (0, case.source.len() as u64),
+        10 => (start, end) == (0, 0),
+        _ => count == 0,
+    };
+    if !place_fits {
+        out.push_str(&format!("number {number} has place {start} {end}, count {count}\n"));
+    }
+    if !(1..=3).contains(&number) {
+        let trouble = walk(case.source, [number, start, end, count], out);
+        out.extend(trouble);
+    }
+}
+
+/// Prints the tokens of an accepted list. What the steps and the list say must agree, and a token's word must be
+/// its text's; where not, the answer gains a line that no oracle writes.
+fn walk(source: &[u8], list: [u64; 4], out: &mut String) -> Option<String> {
+    let (mut at, mut seen) = (0, 0);
+    loop {
+        let [number, start, end, code, word] = step(source, at);
+        if number != 0 {
+            let same = match number {
+                11 => list[0] == 0 || list[0] == 10,
+                _ => list[..3] == [number, start, end],
+            };
+            let counted = if number == 11 { seen } else { 0 };
+            return (!same || counted != list[3] || (code, word) != (0, 0))
+                .then(|| format!("steps end in {number} {start} {end} {code} {word} after {seen}\n"));
+        }
+        if list[0] == 0 {
+            write_row(out, &[code, start, end]);
+        }
+        let text = source.get(start as usize..end as usize).filter(|text| !text.is_empty());
+        if start < at || text.is_none_or(|text| word::number(code, text) != Some(word)) {
+            return Some(format!("step from {at}: {start} {end} {code} has word {word}\n"));
+        }
+        (at, seen) = (end, seen + 1);
+    }
+}
+
+fn main() -> std::io::Result<()> {
+    let arguments: Vec<String> = std::env::args().skip(1).collect();
+    if arguments.first().is_some_and(|word| word == "time") {
+        return time(&arguments[1..], |source| tokens(source, u64::MAX)[3]);
+    }
+    serve(|case, out| match case.entry {
+        b'c' => token_list(case, out),
+        _ => {
+            eprintln!("unknown entry");
+            std::process::exit(2);
+        }
+    })
+}

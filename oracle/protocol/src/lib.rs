@@ -1,0 +1,145 @@
+//! The one protocol that the oracle, the full commit and our own code speak.
+//!
+//! Cases follow one another on standard input: a line `ENTRY LENGTH` or `ENTRY LENGTH ROOM`, then LENGTH bytes at
+//! once, then the next line. ENTRY is `a`, `b`, `c` or `e`; ROOM counts rows, tokens or bytes, enough if left out.
+//! Each answer ends in an empty line. See ../README.md.
+
+use std::{
+    fmt::Write as _,
+    io::{self, BufRead, Read, Write},
+};
+
+#[derive(Clone, Copy, Debug, PartialEq, Eq)]
+pub struct Refusal {
+    pub number: u64,
+    pub start: u64,
+    pub end: u64,
+}
+
+impl Refusal {
+    pub fn new(number: u64, start: usize, end: usize) -> Self {
+        Refusal { number, start: start as u64, end: end as u64 }
+    }
+}
+
+/// What an entry point found, room set aside: lines of numbers for (a), (b) and (c), bytes for (e).
+pub enum Found<const N: usize> {
+    Rows(Vec<[u64; N]>),
+    Refused(Refusal),
+}
+
+pub struct Case<'a> {
+    pub entry: u8,
+    pub source: &'a [u8],
+    pub room: u64,
+}
+
+/// `accepted COUNT` and a line for each row, or `refused ..`; 10 exactly when nothing else refuses and the count
+/// exceeds the room.
+pub fn write_rows<const N: usize>(out: &mut String, found: &Found<N>, room: u64) {
+    match found {
+        Found::Refused(r) => write_refusal(out, *r),
+        Found::Rows(rows) if rows.len() as u64 > room => write_no_room(out, rows.len() as u64),
+        Found::Rows(rows) => {
+            writeln!(out, "accepted {}", rows.len()).unwrap();
+            for row in rows {
+                write_row(out, row);
+            }
+        }
+    }
+}
+
+pub fn write_row(out: &mut String, row: &[u64]) {
+    for (i, number) in row.iter().enumerate() {
+        if i > 0 {
+            out.push(' ');
+        }
+        write!(out, "{number}").unwrap();
+    }
+    out.push('\n');
+}
+
+/// `accepted COUNT` and, unless COUNT is 0, one line of lower-case hex.
+pub fn write_bytes(out: &mut String, found: Result<&[u8], Refusal>, room: u64) {
+    match found {
+        Err(r) => write_refusal(out, r),
+        Ok(bytes) if bytes.len() as u64 > room => write_no_room(out, bytes.len() as u64),
+        Ok(bytes) => {
+            writeln!(out, "accepted {}", bytes.len()).unwrap();
+            for byte in bytes {
+                write!(out, "{byte:02x}").unwrap();
+            }
+            if !bytes.is_empty() {
+                out.push('\n');
+            }
+        }
+    }
+}
+
+pub fn write_refusal(out: &mut String, r: Refusal) {
+    writeln!(out, "refused {} {} {}", r.number, r.start, r.end).unwrap();
+}
+
+pub fn write_no_room(out: &mut String, count: u64) {
+    writeln!(out, "refused 10 0 0 {count}").unwrap();
+}
+
+/// Reads cases to the end of standard input and writes the answer to each. What is waiting is sent on before more
+/// input is waited for.
+pub fn serve(mut answer: impl FnMut(&Case<'_>, &mut String)) -> io::Result<()> {
+    let mut input = io::BufReader::with_capacity(1 << 20, io::stdin().lock());
+    let mut output = io::BufWriter::with_capacity(1 << 20, io::stdout().lock());
+    let (mut header, mut source, mut text) = (Vec::new(), Vec::new(), String::new());
+    loop {
+        if input.buffer().is_empty() {
+            output.flush()?;
+        }
+        header.clear();
+        if input.read_until(b'\n', &mut header)? == 0 {
+            return output.flush();
+        }
+        let (entry, length, room) = parse_header(&header)
+            .ok_or_else(|| io::Error::other(format!("not a case: {}", String::from_utf8_lossy(&header))))?;
+        source.clear();
+        if (&mut input).take(length).read_to_end(&mut source)? as u64 != length {
+            return Err(io::Error::other("the last case is cut short"));
+        }
+        text.clear();
+        answer(&Case { entry, source: &source, room }, &mut text);
+        text.push('\n');
+        output.write_all(text.as_bytes())?;
+    }
+}
+
+/// `time REPEATS FILE ..`: for each file its length, the count that a function gives for it, and the shortest of so
+/// many times that the function took, in nanoseconds.
+pub fn time(arguments: &[String], mut count: impl FnMut(&[u8]) -> u64) -> io::Result<()> {
+    let repeats: u32 = arguments.first().and_then(|text| text.parse().ok()).unwrap_or(1);
+    for file in arguments.iter().skip(1) {
+        let source = std::fs::read(file)?;
+        let mut best = std::time::Duration::MAX;
+        let mut counted = 0;
+        for _ in 0..repeats.max(1) {
+            let begun = std::time::Instant::now();
+            counted = count(std::hint::black_box(&source));
+            best = best.min(begun.elapsed());
+        }
+        println!("{} {counted} {}", source.len(), best.as_nanos());
+    }
+    Ok(())
+}
+
+fn parse_header(line: &[u8]) -> Option<(u8, u64, u64)> {
+    let line = std::str::from_utf8(line.strip_suffix(b"\n")?).ok()?;
+    let mut parts = line.split(' ');
+    let entry = match parts.next()? {
+        "a" => b'a',
+        "b" => b'b',
+        "c" => b'c',
+        "e" => b'e',
+        _ => return None,
+    };
+    let length = parts.next()?.parse().ok()?;
+    let room = parts.next().map_or(Some(u64::MAX), |room| room.parse().ok())?;
+    parts.next().is_none().then_some((entry, length, room))
+}

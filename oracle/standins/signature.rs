@@ -1,0 +1,1 @@
+//! Stand-in for `parser/signature.rs`: nothing that reads a source calls it.
