@@ -1,4 +1,4 @@
-// Answers cases from standard input, one after the other: a line `c LENGTH ROOM`, then LENGTH bytes.
+// Answers cases from standard input, one after the other: a line `ENTRY LENGTH ROOM`, then LENGTH bytes.
 ghost use mathlib.Core.Path.{_≡_};
 ghost use Prim.Native.Nat.{_≤_, _<_};
 ghost use lib.ListN.{length};
@@ -39,6 +39,16 @@ fn wide(b: u8) -> usize
     b as usize
 }
 
+// Entries: `c` source to token list, `e` a string token decoded.
+fn answer(entry: u8, source: &[u8], room: usize) {
+    if entry == b'c' {
+        print::answer_tokens(source, room);
+    }
+    if entry == b'e' {
+        print::answer_decode(source, room);
+    }
+}
+
 // Answers the case whose header starts at `at`; the place behind its bytes, or the end where there is none.
 fn case(s: &[u8], at: usize) -> usize
     requires { ⌜ at < length (now s) ⌝ }
@@ -63,7 +73,7 @@ fn case(s: &[u8], at: usize) -> usize
         return s.len();
     }
     let end = start + count;
-    print::answer_tokens(&s[start..end], room.value);
+    answer(s[at], &s[start..end], room.value);
     io::write_all(STDOUT_FILENO, b"\n");
     end
 }

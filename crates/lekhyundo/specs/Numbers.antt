@@ -2,6 +2,7 @@
 use Prim.Native.Nat.{ℕ}
 use mathlib.Core.List.{List, [], _∷_}
 use Rattle.tokens.specs.declared.Answer.{Answer}
+use Rattle.strings.specs.declared.Answer as strings
 use Rattle.tokens.specs.declared.Step.{Step}
 use Rattle.tokens.specs.declared.Step.the-variants.{Taken, Refused}
 
@@ -13,3 +14,6 @@ answerNumbers a = a .number ∷ a .start ∷ a .end ∷ a .count ∷ []
 unfoldable pub stepNumbers : Step → List ℕ
 stepNumbers (Taken t w next) = 0 ∷ t .start ∷ t .end ∷ t .code ∷ w ∷ []
 stepNumbers (Refused r) = r .number ∷ r .start ∷ r .end ∷ 0 ∷ 0 ∷ []
+
+unfoldable pub decodeNumbers : strings.Answer → List ℕ
+decodeNumbers a = a .number ∷ a .start ∷ a .end ∷ a .count ∷ []

@@ -1,9 +1,10 @@
 // The functions that C and Rust link: each answers in a lent run of numbers, as far as that reaches.
 ghost use mathlib.Core.Path.{_≡_};
-ghost use lib.ListN.{set};
+ghost use lib.ListN.{set, length};
 ghost use lib.Seq.{sets};
 ghost use Rattle.tokens.specs.Tokens.{stepAt, answerOf};
-ghost use Rattle.lekhyundo.specs.Numbers.{answerNumbers, stepNumbers};
+ghost use Rattle.strings.specs.Strings.{answerOf as decodeAnswer, contentOf};
+ghost use Rattle.lekhyundo.specs.Numbers.{answerNumbers, stepNumbers, decodeNumbers};
 use tokens::Cursor;
 use tokens::Step;
 
@@ -49,4 +50,17 @@ pub extern "C" fn lekhyundo_step(s: &[u8], at: usize, out: &mut [u64])
             put(out, 4, 0);
         }
     }
+}
+
+// (e): a string token decoded into the lent bytes; number, start, end, count.
+#[no_mangle]
+pub extern "C" fn lekhyundo_decode(s: &[u8], out: &mut [u8], answer: &mut [u64])
+    ensures { λ r. ⌜ now (answer .exit) ≡ sets (now (answer .entry)) 0 (decodeNumbers (decodeAnswer (now (s .entry)) (length (now (out .entry))))) ⌝ }
+    ensures { λ r. ⌜ now (out .exit) ≡ contentOf (now (s .entry)) (length (now (out .entry))) ⌝ }
+{
+    let a = strings::decode(s, out);
+    put(answer, 0, a.number);
+    put(answer, 1, a.start as u64);
+    put(answer, 2, a.end as u64);
+    put(answer, 3, a.count as u64);
 }

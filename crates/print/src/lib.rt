@@ -51,3 +51,47 @@ pub fn answer_tokens(s: &[u8], room: usize) {
         token_lines(s, a.count);
     }
 }
+
+// The bytes as one line of hex, two digits each.
+fn hex_line(bytes: &[u8]) {
+    let mut i = 0;
+    while i < bytes.len() {
+        io::print_hex(STDOUT_FILENO, wide(bytes[i]), 2);
+        i += 1;
+    }
+    io::write_all(STDOUT_FILENO, b"\n");
+}
+
+fn wide(b: u8) -> u64 {
+    b as u64
+}
+
+fn decoded(s: &[u8], out: &mut [u8]) {
+    let a = strings::decode(s, out);
+    let count = a.count;
+    head(Answer {
+        number: a.number,
+        start: a.start,
+        end: a.end,
+        count,
+    });
+    if (a.number == 0) & (0 < count) {
+        if count <= out.len() {
+            hex_line(&out[..count]);
+        }
+    }
+}
+
+fn decoded_within(s: &[u8], out: &mut [u8], room: usize) {
+    if room < out.len() {
+        decoded(s, &mut out[..room]);
+    } else {
+        decoded(s, out);
+    }
+}
+
+// (e): the answer, and the decoded bytes where it accepts some. No token decodes to more bytes than the buffer has.
+pub fn answer_decode(s: &[u8], room: usize) {
+    let mut out = io::large_buffer();
+    decoded_within(s, &mut out, room);
+}

@@ -1,6 +1,6 @@
 //! Our own code behind the protocol: the compiled Rattle library, called as C calls it.
 
-use protocol::{Case, Refusal, serve, time, write_no_room, write_refusal, write_row};
+use protocol::{Case, Refusal, serve, time, write_bytes, write_no_room, write_refusal, write_row};
 
 mod word;
 
@@ -9,6 +9,10 @@ unsafe extern "C" {
     fn lekhyundo_tokens(source: *const u8, length: usize, room: u64, out: *mut u64, out_length: usize);
     /// out: 0 for a token, else 4, 5 or 11; start; end; code; word number.
     fn lekhyundo_step(source: *const u8, length: usize, at: u64, out: *mut u64, out_length: usize);
+    /// (e) into `out`; answer: number, start, end, count.
+    fn lekhyundo_decode(
+        source: *const u8, length: usize, out: *mut u8, out_length: usize, answer: *mut u64, answer_length: usize,
+    );
 }
 
 fn tokens(source: &[u8], room: u64) -> [u64; 4] {
@@ -73,6 +77,28 @@ fn walk(source: &[u8], list: [u64; 4], out: &mut String) -> Option<String> {
     }
 }
 
+/// (e), into bytes that are not zero before. What is left of them must be zeros.
+fn decode(case: &Case<'_>, out: &mut String) {
+    let mut bytes = vec![0xa5u8; case.room.min(1 << 17) as usize];
+    let mut answer = [u64::MAX; 4];
+    // SAFETY: each pointer is to that many elements, and the library keeps none.
+    unsafe {
+        lekhyundo_decode(
+            case.source.as_ptr(), case.source.len(), bytes.as_mut_ptr(), bytes.len(), answer.as_mut_ptr(), answer.len(),
+        )
+    };
+    let [number, start, end, count] = answer;
+    let used = if number == 0 { count as usize } else { 0 };
+    match number {
+        0 => write_bytes(out, Ok(&bytes[..used]), case.room),
+        10 => write_no_room(out, count),
+        _ => write_refusal(out, Refusal { number, start, end }),
+    }
+    if bytes[used..].iter().any(|&byte| byte != 0) {
+        out.push_str("the rest is not zeros\n");
+    }
+}
+
 fn main() -> std::io::Result<()> {
     let arguments: Vec<String> = std::env::args().skip(1).collect();
     if arguments.first().is_some_and(|word| word == "time") {
@@ -80,6 +106,7 @@ fn main() -> std::io::Result<()> {
     }
     serve(|case, out| match case.entry {
         b'c' => token_list(case, out),
+        b'e' => decode(case, out),
         _ => {
             eprintln!("unknown entry");
             std::process::exit(2);

@@ -1,0 +1,3 @@
+pub mod Parts
+pub mod Sides
+pub mod Rfc4291

@@ -1,0 +1,3 @@
+pub mod Groups
+pub mod Addresses
+pub mod Rfc4291

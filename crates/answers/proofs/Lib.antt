@@ -1,0 +1,8 @@
+pub mod Ahead
+pub mod Scans
+pub mod Steps
+pub mod Determined
+pub mod Bytes
+pub mod Computed
+pub mod Opened
+pub mod Worked

@@ -1,0 +1,5 @@
+pub mod Source
+pub mod Entries
+pub mod Compute
+pub mod Cases
+pub mod Decided

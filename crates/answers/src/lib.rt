@@ -1,0 +1,1 @@
+// The answers of (a) and (b) over the bytes of a source; no code.

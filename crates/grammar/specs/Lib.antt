@@ -1,0 +1,16 @@
+pub mod Words
+pub mod Grammar
+pub mod Limits
+pub mod Kinds
+pub mod Table
+pub mod Readings
+pub mod Choice
+pub mod Runs
+pub mod Rows
+pub mod Refusals
+pub mod Hints
+pub mod Language
+pub mod Answers
+pub mod Phrases
+pub mod Compute
+pub mod Culprit

@@ -1,0 +1,1 @@
+// The grammar's definitions and theorems; no code.

@@ -1,0 +1,4 @@
+pub mod Choices
+pub mod Digits
+pub mod Texts
+pub mod Numbers

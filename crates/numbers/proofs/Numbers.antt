@@ -1,0 +1,94 @@
+-- What integers, floats, hex numbers and AS numbers say, from the tests on the way.
+use mathlib.Core.Path.{_≡_, refl, sym, ap, _∙_}
+use Prim.Native.Nat.{ℕ, _+_, _-_, _<_, _≤_, zero-le}
+use mathlib.Core.List.{List}
+use mathlib.Core.Bool.{Bool, true, false, _&&_, _||_}
+use native.Mathlib.Omega.{arith}
+use lib.ListN.{length, take, drop}
+use lib.Dec.{eqb}
+use borrow.Author.Tests.{lt-ltb, le-ltb, ne-eqb}
+use Rattle.chars.specs.declared.Class.{Class}
+use Rattle.chars.specs.Chars.{byteAt, isDigit, isClass}
+use Rattle.chars.specs.Runs.{pastRun}
+use Rattle.chars.proofs.Runs.{past-le, within}
+use Rattle.numbers.specs.declared.Base.{Base}
+use Rattle.numbers.specs.declared.Number.{Number}
+use Rattle.numbers.specs.declared.Amount.{Amount}
+use Rattle.numbers.specs.Digits.{choose, numberOf, plain}
+use Rattle.numbers.specs.Numbers.{suffixOf, asInteger, integerWith, integerOf, floatWith, floatOf}
+use Rattle.numbers.proofs.Choices.{first, second, and-right}
+use Rattle.numbers.proofs.Digits.{plain-whole}
+use Rattle.numbers.proofs.Texts.{tail-part}
+
+-- the figures of a text end inside it
+pub figures-le : (t : List ℕ) {e : ℕ} → e ≡ pastRun (isClass Class.Figure) t 0 → e ≤ length t
+figures-le t h = rw h (past-le (isClass Class.Figure) t 0 zero-le)
+
+module _ (figures : List ℕ) (s : ℕ) where
+  pub integer-is : {n : Number} {v k : ℕ} → s < 9 → n ≡ numberOf Base.Ten 9223372036854775807 (plain true figures) → n ≡ Number.Is v k → Amount.Integer v s ≡ integerWith figures s
+  unfolding integerWith asInteger
+  integer-is h e f = first _ (lt-ltb _ _ h) (sym (ap (asInteger s) (sym e ∙ f)))
+
+  pub integer-over : {n : Number} → s < 9 → n ≡ numberOf Base.Ten 9223372036854775807 (plain true figures) → n ≡ Number.None → Amount.None ≡ integerWith figures s
+  unfolding integerWith asInteger
+  integer-over h e f = first _ (lt-ltb _ _ h) (sym (ap (asInteger s) (sym e ∙ f)))
+
+  pub integer-float : 9 ≤ s → s < 11 → Amount.Float s ≡ integerWith figures s
+  unfolding integerWith
+  integer-float h k = second _ (le-ltb _ _ h) (first _ (lt-ltb _ _ k) refl)
+
+  pub integer-other : 9 ≤ s → 11 ≤ s → Amount.None ≡ integerWith figures s
+  unfolding integerWith
+  integer-other h k = second _ (le-ltb _ _ h) (second _ (le-ltb _ _ k) refl)
+
+module _ (t : List ℕ) {b : ℕ} {u : Bool} (hb : b ≡ byteAt t 0) (hu : u ≡ isDigit b) where
+  said : {v : Bool} → u ≡ v → isDigit (byteAt t 0) ≡ v
+  said f = ap isDigit (sym hb) ∙ sym hu ∙ f
+
+  pub integer-starts : {e s : ℕ} {r : Amount} → u ≡ true → e ≡ pastRun (isClass Class.Figure) t 0 → s ≡ suffixOf (take (length t - e) (drop e t)) → r ≡ integerWith (take e t) s → r ≡ integerOf t
+  unfolding integerOf
+  integer-starts {e} f he hs g = rw (← he) (first _ (said f) (g ∙ ap (integerWith (take e t)) (hs ∙ ap suffixOf (tail-part t e))))
+
+  pub integer-fails : u ≡ false → Amount.None ≡ integerOf t
+  unfolding integerOf
+  integer-fails f = second _ (said f) refl
+
+abbrev dot-here : ℕ → Bool
+dot-here b = eqb b 46
+
+module _ (t : List ℕ) {dot b : ℕ} (hd : dot ≡ pastRun (isClass Class.Figure) t 0) (hb : b ≡ byteAt t dot) where
+  pub dot-in : eqb b 46 ≡ true → dot < length t
+  dot-in f = within dot-here refl t dot (ap dot-here (sym hb) ∙ f)
+
+  pub fraction-le : {e : ℕ} → eqb b 46 ≡ true → e ≡ pastRun (isClass Class.Figure) t (dot + 1) → e ≤ length t
+  fraction-le f he = rw he (past-le (isClass Class.Figure) t (dot + 1) (omega (arith, dot-in f)))
+
+  pub float-dot : {e s : ℕ} {r : Amount} → eqb b 46 ≡ true → e ≡ pastRun (isClass Class.Figure) t (dot + 1) → s ≡ suffixOf (take (length t - e) (drop e t)) → r ≡ floatWith s → r ≡ floatOf t
+  unfolding floatOf
+  float-dot {e} f he hs g = rw (← hd, ← he) (first _ (ap dot-here (sym hb) ∙ f) (g ∙ ap floatWith (hs ∙ ap suffixOf (tail-part t e))))
+
+  pub float-fails : eqb b 46 ≡ false → Amount.None ≡ floatOf t
+  unfolding floatOf
+  float-fails f = rw (← hd) (second _ (ap dot-here (sym hb) ∙ f) refl)
+
+pub float-is : (s : ℕ) → ((eqb s 0 || eqb s 9) || eqb s 10) ≡ true → Amount.Float s ≡ floatWith s
+unfolding floatWith
+float-is s h = first _ h refl
+
+pub float-other : (s : ℕ) → ((eqb s 0 || eqb s 9) || eqb s 10) ≡ false → Amount.None ≡ floatWith s
+unfolding floatWith
+float-other s h = second _ h refl
+
+-- a number behind two bytes
+module _ (t : List ℕ) (x y : ℕ) {a b : ℕ} (ha : a ≡ byteAt t 0) (hb : b ≡ byteAt t 1) where
+  begins : {u : Bool} → (eqb a x && eqb b y) ≡ u → (eqb (byteAt t 0) x && eqb (byteAt t 1) y) ≡ u
+  begins h = rw (← ha, ← hb) h
+
+  pub begins-in : y < 256 → (eqb a x && eqb b y) ≡ true → 2 ≤ length t
+  begins-in h e = within (λ n. eqb n y) (ne-eqb 256 y (λ g. omega arith)) t 1 (ap (λ n. eqb n y) (sym hb) ∙ and-right (eqb a x) (eqb b y) e)
+
+  pub behind : (f : List ℕ → Number) {r : Number} → (eqb a x && eqb b y) ≡ true → r ≡ f (plain false (take (length t - 2) (drop 2 t))) → r ≡ choose (eqb (byteAt t 0) x && eqb (byteAt t 1) y) (f (drop 2 t)) Number.None
+  behind f h g = first _ (begins h) (g ∙ ap f (plain-whole (take (length t - 2) (drop 2 t)) ∙ tail-part t 2))
+
+  pub not-begun : (n : Number) → (eqb a x && eqb b y) ≡ false → Number.None ≡ choose (eqb (byteAt t 0) x && eqb (byteAt t 1) y) n Number.None
+  not-begun n h = second n (begins h) refl

@@ -1,0 +1,3 @@
+pub mod Escapes
+pub mod Utf8
+pub mod Strings
