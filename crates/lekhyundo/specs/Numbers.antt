@@ -3,6 +3,7 @@ use Prim.Native.Nat.{ℕ}
 use mathlib.Core.List.{List, [], _∷_}
 use Rattle.tokens.specs.declared.Answer.{Answer}
 use Rattle.strings.specs.declared.Answer as strings
+use Rattle.values.specs.declared.Literal.{Literal}
 use Rattle.tokens.specs.declared.Step.{Step}
 use Rattle.tokens.specs.declared.Step.the-variants.{Taken, Refused}
 
@@ -17,3 +18,8 @@ stepNumbers (Refused r) = r .number ∷ r .start ∷ r .end ∷ 0 ∷ 0 ∷ []
 
 unfoldable pub decodeNumbers : strings.Answer → List ℕ
 decodeNumbers a = a .number ∷ a .start ∷ a .end ∷ a .count ∷ []
+
+-- a literal's row, behind 0; or 7, "literal without a value"
+unfoldable pub literalNumbers : Literal → List ℕ
+literalNumbers (Literal.Is k v d) = 0 ∷ k ∷ v ∷ d ∷ []
+literalNumbers Literal.None = 7 ∷ 0 ∷ 0 ∷ 0 ∷ []

@@ -1,12 +1,17 @@
 // The functions that C and Rust link: each answers in a lent run of numbers, as far as that reaches.
 ghost use mathlib.Core.Path.{_≡_};
 ghost use lib.ListN.{set, length};
-ghost use lib.Seq.{sets};
+ghost use lib.Seq.{sets, slice};
 ghost use Rattle.tokens.specs.Tokens.{stepAt, answerOf};
+ghost use Rattle.list.specs.Filled.{filled};
 ghost use Rattle.strings.specs.Strings.{answerOf as decodeAnswer, contentOf};
-ghost use Rattle.lekhyundo.specs.Numbers.{answerNumbers, stepNumbers, decodeNumbers};
+ghost use Rattle.values.specs.Literals.{literalOf};
+ghost use Rattle.lekhyundo.specs.Numbers.{answerNumbers, stepNumbers, decodeNumbers, literalNumbers};
+use tokens::Answer;
 use tokens::Cursor;
 use tokens::Step;
+use tokens::Token;
+use values::Literal;
 
 fn put(out: &mut [u64], i: usize, v: u64)
     ensures { λ r. ⌜ now (out .exit) ≡ set (now (out .entry)) i v ⌝ }
@@ -16,16 +21,30 @@ fn put(out: &mut [u64], i: usize, v: u64)
     }
 }
 
+fn put_answer(out: &mut [u64], a: Answer)
+    ensures { λ r. ⌜ now (out .exit) ≡ sets (now (out .entry)) 0 (answerNumbers a) ⌝ }
+{
+    put(out, 0, a.number);
+    put(out, 1, a.start as u64);
+    put(out, 2, a.end as u64);
+    put(out, 3, a.count as u64);
+}
+
 // (c) to a source with room for so many tokens: number, start, end, count.
 #[no_mangle]
 pub extern "C" fn lekhyundo_tokens(s: &[u8], room: usize, out: &mut [u64])
     ensures { λ r. ⌜ now (out .exit) ≡ sets (now (out .entry)) 0 (answerNumbers (answerOf (now (s .entry)) room)) ⌝ }
 {
-    let a = tokens::count_tokens(s, room);
-    put(out, 0, a.number);
-    put(out, 1, a.start as u64);
-    put(out, 2, a.end as u64);
-    put(out, 3, a.count as u64);
+    put_answer(out, tokens::count_tokens(s, room));
+}
+
+// (c) to a source, its tokens in a lent list: number, start, end, count.
+#[no_mangle]
+pub extern "C" fn lekhyundo_token_list(s: &[u8], tokens: &mut [Token], out: &mut [u64])
+    ensures { λ r. ⌜ (now (tokens .exit) ≡ filled (now (s .entry)) (length (now (tokens .entry)))) × (now (out .exit) ≡ sets (now (out .entry)) 0 (answerNumbers (answerOf (now (s .entry)) (length (now (tokens .entry)))))) ⌝ }
+{
+    let a = list::tokens(s, tokens);
+    put_answer(out, a);
 }
 
 // The token at a place: 0, start, end, code, word; or a refusal: number, start, end, 0, 0.
@@ -63,4 +82,29 @@ pub extern "C" fn lekhyundo_decode(s: &[u8], out: &mut [u8], answer: &mut [u64])
     put(answer, 1, a.start as u64);
     put(answer, 2, a.end as u64);
     put(answer, 3, a.count as u64);
+}
+
+// The value of the token of a code between two places: 0, kind, value, detail; or 7 and zeros for a literal without a value.
+#[no_mangle]
+pub extern "C" fn lekhyundo_literal(s: &[u8], code: u64, start: usize, end: usize, out: &mut [u64])
+    ensures { λ r. ⌜ now (out .exit) ≡ sets (now (out .entry)) 0 (literalNumbers (literalOf code (slice start end (now (s .entry))))) ⌝ }
+{
+    match values::literal_at(s, code, start, end) {
+        Literal::Is {
+            kind,
+            value,
+            detail,
+        } => {
+            put(out, 0, 0);
+            put(out, 1, kind);
+            put(out, 2, value);
+            put(out, 3, detail);
+        }
+        Literal::None => {
+            put(out, 0, 7);
+            put(out, 1, 0);
+            put(out, 2, 0);
+            put(out, 3, 0);
+        }
+    }
 }

@@ -6,8 +6,8 @@ use mathlib.Core.Bool.{Bool, true, false, _&&_}
 use lib.ListN.{length, drop, replicate}
 use lib.Dec.{eqb, ltb, leb}
 use lib.Seq.{slice}
-use Rattle.numbers.specs.Digits.{choose}
 use Rattle.chars.specs.Chars.{byteAt}
+use Rattle.numbers.specs.Digits.{choose}
 use Rattle.strings.specs.declared.Piece.{Piece}
 use Rattle.strings.specs.declared.Size.{Size}
 use Rattle.strings.specs.declared.Point.{Point}
@@ -40,6 +40,7 @@ abbrev pub sized : Option (List ℕ) → Size
 sized (some cs) = Size.Is (length (encode cs))
 sized none = Size.None
 
+-- how many bytes the inside of a string decodes to
 unfoldable pub measureOf : List ℕ → Size
 measureOf inside = sized (codesOf inside)
 
@@ -86,6 +87,7 @@ answerFor n room (Size.Is count) =
     choose (ltb room count) (record { number = 10; start = 0; end = 0; count = count }) (record { number = 0; start = 0; end = n; count = count })
 answerFor n room Size.None = record { number = 7; start = 0; end = n; count = 0 }
 
+-- 7 for no such token; 10, with the count needed, for no room; else 0
 unfoldable pub answerOf : List ℕ → ℕ → Answer
 answerOf text room = answerFor (length text) room (tokenSize text)
 

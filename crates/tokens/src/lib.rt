@@ -16,6 +16,7 @@ pub struct Cursor {
     pub at: usize,
 }
 
+#[repr(C)]
 pub struct Token {
     pub code: u64,
     pub start: usize,

@@ -4,9 +4,24 @@ use protocol::{Case, Refusal, serve, time, write_bytes, write_no_room, write_ref
 
 mod word;
 
+#[repr(C)]
+#[derive(Clone, Copy, PartialEq)]
+struct Token {
+    code: u64,
+    start: usize,
+    end: usize,
+}
+
+const ZERO: Token = Token { code: 0, start: 0, end: 0 };
+const UNSET: Token = Token { code: 77, start: 7, end: 7 };
+
 unsafe extern "C" {
-    /// out: number, start, end, count of entry (c).
-    fn lekhyundo_tokens(source: *const u8, length: usize, room: u64, out: *mut u64, out_length: usize);
+    /// (c) into `list`; out: number, start, end, count.
+    fn lekhyundo_token_list(
+        source: *const u8, length: usize, list: *mut Token, list_length: usize, out: *mut u64, out_length: usize,
+    );
+    /// The same without a list, with room for so many tokens.
+    fn lekhyundo_tokens(source: *const u8, length: usize, room: usize, out: *mut u64, out_length: usize);
     /// out: 0 for a token, else 4, 5 or 11; start; end; code; word number.
     fn lekhyundo_step(source: *const u8, length: usize, at: u64, out: *mut u64, out_length: usize);
     /// (e) into `out`; answer: number, start, end, count.
@@ -15,9 +30,18 @@ unsafe extern "C" {
     );
 }
 
-fn tokens(source: &[u8], room: u64) -> [u64; 4] {
+fn tokens(source: &[u8], list: &mut [Token]) -> [u64; 4] {
     let mut out = [u64::MAX; 4];
-    // SAFETY: both pointers are to that many elements, and the library keeps neither.
+    // SAFETY: each pointer is to that many elements, and the library keeps none.
+    unsafe {
+        lekhyundo_token_list(source.as_ptr(), source.len(), list.as_mut_ptr(), list.len(), out.as_mut_ptr(), out.len())
+    };
+    out
+}
+
+fn count(source: &[u8], room: usize) -> [u64; 4] {
+    let mut out = [u64::MAX; 4];
+    // SAFETY: as above.
     unsafe { lekhyundo_tokens(source.as_ptr(), source.len(), room, out.as_mut_ptr(), out.len()) };
     out
 }
@@ -29,9 +53,18 @@ fn step(source: &[u8], at: u64) -> [u64; 5] {
     out
 }
 
-/// (c): the whole list's answer, and the tokens one by one, each step from the last token's end.
+/// (c): the list, written over what is no token; and again without a list, and token by token, each step from the last
+/// token's end.
 fn token_list(case: &Case<'_>, out: &mut String) {
-    let [number, start, end, count] = tokens(case.source, case.room);
+    // No source has more tokens than bytes.
+    let mut list = vec![UNSET; case.room.min(case.source.len() as u64 + 2) as usize];
+    let answer = tokens(case.source, &mut list);
+    let [number, start, end, count_said] = answer;
+    let written = if number == 0 { count_said as usize } else { 0 };
+    if list[written..].iter().any(|token| *token != ZERO) || count(case.source, list.len()) != answer {
+        out.push_str("the rest is not zeros, or the count is another\n");
+    }
+    let count = count_said;
     match number {
         0 => out.push_str(&format!("accepted {count}\n")),
         10 => write_no_room(out, count),
@@ -46,14 +79,14 @@ fn token_list(case: &Case<'_>, out: &mut String) {
         out.push_str(&format!("number {number} has place {start} {end}, count {count}\n"));
     }
     if !(1..=3).contains(&number) {
-        let trouble = walk(case.source, [number, start, end, count], out);
+        let trouble = walk(case.source, [number, start, end, count], &list, out);
         out.extend(trouble);
     }
 }
 
 /// Prints the tokens of an accepted list. What the steps and the list say must agree, and a token's word must be
 /// its text's; where not, the answer gains a line that no oracle writes.
-fn walk(source: &[u8], list: [u64; 4], out: &mut String) -> Option<String> {
+fn walk(source: &[u8], list: [u64; 4], written: &[Token], out: &mut String) -> Option<String> {
     let (mut at, mut seen) = (0, 0);
     loop {
         let [number, start, end, code, word] = step(source, at);
@@ -67,7 +100,8 @@ fn walk(source: &[u8], list: [u64; 4], out: &mut String) -> Option<String> {
                 .then(|| format!("steps end in {number} {start} {end} {code} {word} after {seen}\n"));
         }
         if list[0] == 0 {
-            write_row(out, &[code, start, end]);
+            let Token { code, start, end } = written[seen as usize];
+            write_row(out, &[code, start as u64, end as u64]);
         }
         let text = source.get(start as usize..end as usize).filter(|text| !text.is_empty());
         if start < at || text.is_none_or(|text| word::number(code, text) != Some(word)) {
@@ -102,7 +136,13 @@ fn decode(case: &Case<'_>, out: &mut String) {
 fn main() -> std::io::Result<()> {
     let arguments: Vec<String> = std::env::args().skip(1).collect();
     if arguments.first().is_some_and(|word| word == "time") {
-        return time(&arguments[1..], |source| tokens(source, u64::MAX)[3]);
+        // A list of exactly the tokens that there are, from the second time on.
+        let mut list = Vec::new();
+        return time(&arguments[1..], |source| {
+            let [_, _, _, count] = tokens(source, &mut list);
+            list.resize(count as usize, ZERO);
+            count
+        });
     }
     serve(|case, out| match case.entry {
         b'c' => token_list(case, out),

@@ -1,0 +1,3 @@
+mod States
+mod Refusals
+mod Writing

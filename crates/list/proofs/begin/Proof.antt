@@ -1,0 +1,38 @@
+use Rattle.list.proofs.States.{begins, begins-not}
+use borrow.Author.Needs.{needs}
+use Rattle.list.proofs.begin.Statement.{statement}
+use Rattle.list.proofs.begin.Tie as tie
+use Rattle.tokens.proofs.check_source.Reads as check-source-reads
+
+check-source-requires : tie.Need-check-source-requires
+check-source-requires c κs = search needs
+
+enum-told : tie.Need-enum-told
+enum-told c = search needs
+
+stand-requires : tie.Need-stand-requires
+stand-requires c κs = search needs
+
+enum-told-2 : tie.Need-enum-told-2
+enum-told-2 c = search needs
+
+refuse-requires : tie.Need-refuse-requires
+refuse-requires c κs = search needs
+
+returns : tie.Need-returns
+returns c = begins _ _ (c .before .before .before .check-source .ensures) (c .before .enum-told .given .1) (c .stand .ensures)
+
+returns-2 : tie.Need-returns-2
+returns-2 c = begins-not _ _ (c .before .before .before .check-source .ensures) (c .before .enum-told2 .given .1) (c .refuse .ensures)
+
+pub begin-spec : {M : Type 1} → statement M
+begin-spec =
+    tie.close
+    (tie.spec
+    check-source-requires
+    enum-told
+    stand-requires
+    enum-told-2
+    refuse-requires
+    returns
+    returns-2)
