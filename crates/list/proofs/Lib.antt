@@ -1,3 +1,2 @@
-mod States
 mod Refusals
 mod Writing

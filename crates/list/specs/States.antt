@@ -43,16 +43,13 @@ begunBy s n (Bad r) = failed s n
 unfoldable pub begun : List ℕ → ℕ → State
 begun s n = begunBy s n (wholeOf s)
 
-abbrev pub zeroAnd : State → Stored
-zeroAnd st = record { token = zeroToken; state = st }
-
 -- what is stored at place p, and where that leaves the writer: while tokens are read, and behind the last
 unfoldable pub readBy : List ℕ → ℕ → ℕ → Step → Stored
 readBy s n p (Taken t w next) = record { token = t; state = standing s n (next .at) (p + 1) }
-readBy s n p (Refused r) = zeroAnd (ended s n p (r .number))
+readBy s n p (Refused r) = record { token = zeroToken; state = ended s n p (r .number) }
 
 unfoldable pub zeroNext : State → Stored
-zeroNext st = zeroAnd (record { reading = false; at = 0; place = st .place + 1; answer = st .answer })
+zeroNext st = record { token = zeroToken; state = record { reading = false; at = 0; place = st .place + 1; answer = st .answer } }
 
 unfoldable pub nextOf : List ℕ → ℕ → State → Stored
 nextOf s n st = pick (st .reading) (readBy s n (st .place) (stepAt s (st .at))) (zeroNext st)

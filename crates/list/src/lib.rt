@@ -5,7 +5,7 @@ ghost use Prim.Native.Nat.{_<_};
 ghost use lib.ListN.{length};
 ghost use Rattle.tokens.specs.Tokens.{answerOf};
 ghost use Rattle.list.specs.Filled.{filled};
-ghost use Rattle.list.specs.States.{failed, ended, standing, begun, zeroAnd, nextOf};
+ghost use Rattle.list.specs.States.{failed, ended, standing, begun, nextOf};
 use tokens::Answer;
 use tokens::Cursor;
 use tokens::Step;
@@ -37,21 +37,21 @@ fn refuse(s: &[u8], room: usize) -> State
     }
 }
 
-// No token follows the first `place`: the source ends, or it is refused.
-fn end(s: &[u8], room: usize, place: usize, number: u64) -> State
-    ensures { λ r. ⌜ r ≡ ended (now (s .entry)) room place number ⌝ }
+// No token follows the first `count`: the source ends, or it is refused.
+fn end(s: &[u8], room: usize, count: usize, number: u64) -> State
+    ensures { λ r. ⌜ r ≡ ended (now (s .entry)) room count number ⌝ }
 {
     if number == 11 {
         let answer = Answer {
             number: 0,
             start: 0,
             end: s.len(),
-            count: place,
+            count,
         };
         State {
             reading: false,
             at: 0,
-            place,
+            place: count,
             answer,
         }
     } else {
@@ -93,24 +93,17 @@ fn begin(s: &[u8], room: usize) -> State
     }
 }
 
-fn zero_and(state: State) -> Stored
-    ensures { λ r. ⌜ r ≡ zeroAnd state ⌝ }
-{
-    let token = Token {
-        code: 0,
-        start: 0,
-        end: 0,
-    };
-    Stored { token, state }
-}
-
 // The token to store, and where that leaves the writer.
 fn next(s: &[u8], room: usize, state: State) -> Stored
     requires { ⌜ state .place < room ⌝ }
     ensures { λ r. ⌜ r ≡ nextOf (now (s .entry)) room state ⌝ }
 {
-    let place = state.place;
-    let following = place + 1;
+    let zero = Token {
+        code: 0,
+        start: 0,
+        end: 0,
+    };
+    let following = state.place + 1;
     if state.reading {
         let cursor = Cursor { at: state.at };
         match cursor.step(s) {
@@ -120,16 +113,24 @@ fn next(s: &[u8], room: usize, state: State) -> Stored
                     state: stand(s, room, after.at, following),
                 }
             }
-            Step::Refused(r) => zero_and(end(s, room, place, r.number)),
+            Step::Refused(r) => {
+                Stored {
+                    token: zero,
+                    state: end(s, room, state.place, r.number),
+                }
+            }
         }
     } else {
         let answer = state.answer;
-        zero_and(State {
-            reading: false,
-            at: 0,
-            place: following,
-            answer,
-        })
+        Stored {
+            token: zero,
+            state: State {
+                reading: false,
+                at: 0,
+                place: following,
+                answer,
+            },
+        }
     }
 }
 

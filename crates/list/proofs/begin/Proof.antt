@@ -1,4 +1,4 @@
-use Rattle.list.proofs.States.{begins, begins-not}
+use Rattle.list.specs.States.{begunBy, begun}
 use borrow.Author.Needs.{needs}
 use Rattle.list.proofs.begin.Statement.{statement}
 use Rattle.list.proofs.begin.Tie as tie
@@ -20,10 +20,12 @@ refuse-requires : tie.Need-refuse-requires
 refuse-requires c κs = search needs
 
 returns : tie.Need-returns
-returns c = begins _ _ (c .before .before .before .check-source .ensures) (c .before .enum-told .given .1) (c .stand .ensures)
+unfolding begun begunBy
+returns c = rw (← (c .before .before .before .check-source .ensures), c .before .enum-told .given .1) (c .stand .ensures)
 
 returns-2 : tie.Need-returns-2
-returns-2 c = begins-not _ _ (c .before .before .before .check-source .ensures) (c .before .enum-told2 .given .1) (c .refuse .ensures)
+unfolding begun begunBy
+returns-2 c = rw (← (c .before .before .before .check-source .ensures), c .before .enum-told2 .given .1) (c .refuse .ensures)
 
 pub begin-spec : {M : Type 1} → statement M
 begin-spec =

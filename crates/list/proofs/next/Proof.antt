@@ -1,5 +1,4 @@
-use Rattle.list.proofs.States.{next-token, next-end, next-zero}
-use Rattle.list.specs.States.{zeroNext}
+use Rattle.list.specs.States.{readBy, zeroNext, nextOf}
 use borrow.Author.Needs.{needs}
 use Rattle.list.proofs.next.Statement.{statement}
 use Rattle.list.proofs.next.Tie as tie
@@ -22,21 +21,17 @@ enum-known-r c = search needs
 end-requires : tie.Need-end-requires
 end-requires c κs = search needs
 
-zero-and-requires : tie.Need-zero-and-requires
-zero-and-requires c κs = search needs
-
-zero-and-requires-2 : tie.Need-zero-and-requires-2
-zero-and-requires-2 c κs = search needs
-
 returns : tie.Need-returns
-returns c = next-token _ _ _ (c .before .before .before .before .before .if1 .taken) (c .before .before .before .before .step .ensures) (c .before .before .token .given .1) (c .stand .ensures)
+unfolding nextOf readBy
+returns c = rw (c .before .before .before .before .before .if1 .taken, ← (c .before .before .before .before .step .ensures), c .before .before .token .given .1, c .stand .ensures)
 
 returns-2 : tie.Need-returns-2
-returns-2 c = next-end _ _ _ (c .before .before .before .before .before .before .if1 .taken) (c .before .before .before .before .before .step .ensures) (c .before .before .before .r .given .1) (c .before .end .ensures) (c .zero-and .ensures)
+unfolding nextOf readBy
+returns-2 c = rw (c .before .before .before .before .before .if1 .taken, ← (c .before .before .before .before .step .ensures), c .before .before .r .given .1, c .end .ensures)
 
 returns-3 : tie.Need-returns-3
-unfolding zeroNext
-returns-3 c = next-zero _ _ _ (c .before .before .if1 .left) (c .zero-and2 .ensures)
+unfolding nextOf zeroNext
+returns-3 c = rw (c .before .if1 .left)
 
 pub next-spec : {M : Type 1} → statement M
 next-spec =
@@ -48,8 +43,6 @@ next-spec =
     stand-requires
     enum-known-r
     end-requires
-    zero-and-requires
-    zero-and-requires-2
     returns
     returns-2
     returns-3)

@@ -1,13 +1,12 @@
-use mathlib.Core.Path.{refl}
-use Rattle.list.proofs.States.{stands, stands-over, stands-full}
-use Rattle.list.specs.States.{onward}
+use borrow.Author.Tests.{lt-ltb, le-ltb}
+use Rattle.list.specs.States.{onward, full, standing}
 use borrow.Author.Needs.{needs}
 use Rattle.list.proofs.stand.Statement.{statement}
 use Rattle.list.proofs.stand.Tie as tie
 
 returns : tie.Need-returns
-unfolding onward
-returns c = stands _ _ _ _ (c .if1 .taken) refl
+unfolding standing onward
+returns c = rw (lt-ltb _ _ (c .if1 .taken))
 
 step-requires : tie.Need-step-requires
 step-requires c κs = search needs
@@ -25,10 +24,12 @@ end-requires : tie.Need-end-requires
 end-requires c κs = search needs
 
 returns-2 : tie.Need-returns-2
-returns-2 c = stands-over _ _ _ _ (c .before .before .before .before .if1 .left) (c .before .before .before .step .ensures) (c .before .enum-told .given .1) (c .refuse .ensures)
+unfolding standing full
+returns-2 c = rw (le-ltb _ _ (c .before .before .before .before .if1 .left), ← (c .before .before .before .step .ensures), c .before .enum-told .given .1) (c .refuse .ensures)
 
 returns-3 : tie.Need-returns-3
-returns-3 c = stands-full _ _ _ _ (c .before .before .before .before .before .if1 .left) (c .before .before .before .before .step .ensures) (c .before .before .r .given .1) (c .end .ensures)
+unfolding standing full
+returns-3 c = rw (le-ltb _ _ (c .before .before .before .before .before .if1 .left), ← (c .before .before .before .before .step .ensures), c .before .before .r .given .1) (c .end .ensures)
 
 pub stand-spec : {M : Type 1} → statement M
 stand-spec =
