@@ -5,6 +5,7 @@ ghost use lib.Seq.{sets, slice};
 ghost use Rattle.tokens.specs.Tokens.{stepAt, answerOf};
 ghost use Rattle.list.specs.Filled.{filled};
 ghost use Rattle.strings.specs.Strings.{answerOf as decodeAnswer, contentOf};
+ghost use Rattle.entry.specs.Entries.{nameText};
 ghost use Rattle.values.specs.Literals.{literalOf};
 ghost use Rattle.lekhyundo.specs.Numbers.{answerNumbers, stepNumbers, decodeNumbers, literalNumbers};
 use tokens::Answer;
@@ -107,4 +108,27 @@ pub extern "C" fn lekhyundo_literal(s: &[u8], code: u64, start: usize, end: usiz
             put(out, 3, 0);
         }
     }
+}
+
+// (a): a source to its tree, rows of six numbers in the lent table; number, start, end, count.
+#[no_mangle]
+pub extern "C" fn lekhyundo_tree(s: &[u8], table: &mut [u64], answer: &mut [u64]) {
+    let a = entry::tree(s, table);
+    put_answer(answer, a);
+}
+
+// (b): a source to one expression, likewise.
+#[no_mangle]
+pub extern "C" fn lekhyundo_expression(s: &[u8], table: &mut [u64], answer: &mut [u64]) {
+    let a = entry::expression(s, table);
+    put_answer(answer, a);
+}
+
+// (d): how long the text of a name row is; it starts where the row does.
+#[no_mangle]
+pub extern "C" fn lekhyundo_name(s: &[u8], kind: u64, start: usize, end: usize) -> usize
+    ensures { λ r. ⌜ r ≡ length (nameText (now (s .entry)) kind start end) ⌝ }
+{
+    let text = entry::name_text(s, kind, start, end);
+    text.len()
 }

@@ -24,6 +24,13 @@ unsafe extern "C" {
     fn lekhyundo_tokens(source: *const u8, length: usize, room: usize, out: *mut u64, out_length: usize);
     /// out: 0 for a token, else 4, 5 or 11; start; end; code; word number.
     fn lekhyundo_step(source: *const u8, length: usize, at: u64, out: *mut u64, out_length: usize);
+    /// (a) and (b) into `table`, six numbers a row; answer: number, start, end, count.
+    fn lekhyundo_tree(
+        source: *const u8, length: usize, table: *mut u64, table_length: usize, answer: *mut u64, answer_length: usize,
+    );
+    fn lekhyundo_expression(
+        source: *const u8, length: usize, table: *mut u64, table_length: usize, answer: *mut u64, answer_length: usize,
+    );
     /// (e) into `out`; answer: number, start, end, count.
     fn lekhyundo_decode(
         source: *const u8, length: usize, out: *mut u8, out_length: usize, answer: *mut u64, answer_length: usize,
@@ -111,6 +118,32 @@ fn walk(source: &[u8], list: [u64; 4], written: &[Token], out: &mut String) -> O
     }
 }
 
+/// (a) and (b), into a table that is not zeros before, with numbers behind the last whole row. What is left must be zeros.
+fn rows(case: &Case<'_>, out: &mut String) {
+    let read = if case.entry == b'a' { lekhyundo_tree } else { lekhyundo_expression };
+    // No source has more than three rows to two bytes, and one.
+    let room = case.room.min(case.source.len() as u64 * 3 / 2 + 2) as usize;
+    let mut table = vec![0xa5u64; room * 6 + case.source.len() % 6];
+    let mut answer = [u64::MAX; 4];
+    // SAFETY: each pointer is to that many elements, and the library keeps none.
+    unsafe {
+        read(case.source.as_ptr(), case.source.len(), table.as_mut_ptr(), table.len(), answer.as_mut_ptr(), answer.len())
+    };
+    let [number, start, end, count] = answer;
+    let written = if number == 0 { count as usize * 6 } else { 0 };
+    match number {
+        0 => {
+            out.push_str(&format!("accepted {count}\n"));
+            table[..written].chunks_exact(6).for_each(|row| write_row(out, row));
+        }
+        10 => write_no_room(out, count),
+        _ => write_refusal(out, Refusal { number, start, end }),
+    }
+    if table[written..].iter().any(|&number| number != 0) {
+        out.push_str("the rest is not zeros\n");
+    }
+}
+
 /// (e), into bytes that are not zero before. What is left of them must be zeros.
 fn decode(case: &Case<'_>, out: &mut String) {
     let mut bytes = vec![0xa5u8; case.room.min(1 << 17) as usize];
@@ -145,11 +178,8 @@ fn main() -> std::io::Result<()> {
         });
     }
     serve(|case, out| match case.entry {
+        b'a' | b'b' => rows(case, out),
         b'c' => token_list(case, out),
-        b'e' => decode(case, out),
-        _ => {
-            eprintln!("unknown entry");
-            std::process::exit(2);
-        }
+        _ => decode(case, out),
     })
 }

@@ -1,0 +1,2 @@
+mod Fine
+mod Names

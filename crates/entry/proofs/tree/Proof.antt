@@ -1,0 +1,56 @@
+use mathlib.Core.Path.{sym, _∙_}
+use Rattle.entry.proofs.Fine.{fine-short}
+use borrow.Author.Needs.{needs}
+use Rattle.entry.proofs.tree.Statement.{statement}
+use Rattle.entry.proofs.tree.Tie as tie
+use Rattle.entry.proofs.tree.Reads as reads
+use Rattle.entry.proofs.tree.Lts as lts
+use Rattle.entry.proofs.answer.Reads as answer-reads
+use Rattle.entry.proofs.refused.Reads as refused-reads
+use Rattle.reader.proofs.tree.Reads as tree-reads
+use Rattle.tokens.proofs.check_source.Reads as check-source-reads
+
+check-source-requires : tie.Need-check-source-requires
+check-source-requires c κs = search needs
+
+enum-known-why : tie.Need-enum-known-why
+enum-known-why c = search needs
+
+refused-requires : tie.Need-refused-requires
+refused-requires c κs = search needs
+
+enum-told : tie.Need-enum-told
+enum-told c = search needs
+
+tree-requires : tie.Need-tree-requires
+tree-requires c κs = fine-short (c .before .before .before .before .before .before .args .s .now) (sym (c .before .before .before .check-source .ensures) ∙ c .before .enum-told .given .1)
+
+answer-requires : tie.Need-answer-requires
+answer-requires c κs = search needs
+
+same-length : tie.Need-same-length
+same-length c = search needs
+
+returns : tie.Need-returns
+returns c = search needs
+
+same-length-2 : tie.Need-same-length-2
+same-length-2 c = search needs
+
+returns-2 : tie.Need-returns-2
+returns-2 c = search needs
+
+pub tree-spec : {M : Type 1} → statement M
+tree-spec =
+    tie.close
+    (tie.spec
+    check-source-requires
+    enum-known-why
+    refused-requires
+    enum-told
+    tree-requires
+    answer-requires
+    same-length
+    returns
+    same-length-2
+    returns-2)

@@ -1,0 +1,87 @@
+// Entry points (a), (b) and (d).
+ghost use mathlib.Core.Path.{_≡_};
+ghost use Rattle.tokens.specs.Tokens.{refusal};
+ghost use Rattle.rows.specs.Rows.{zeroed};
+ghost use Rattle.entry.specs.Entries.{nameText};
+use reader::Read;
+use tokens::Answer;
+use tokens::Refusal;
+use tokens::Whole;
+
+// A refusal leaves zeros throughout.
+fn refused(table: &mut [u64], r: Refusal) -> Answer
+    ensures { λ a. ⌜ (a ≡ refusal r) × (now (table .exit) ≡ zeroed (now (table .entry)) 0) ⌝ }
+{
+    rows::clear(table, 0);
+    Answer {
+        number: r.number,
+        start: r.start,
+        end: r.end,
+        count: 0,
+    }
+}
+
+// Zeros behind the rows, where there was room for them.
+fn counted(table: &mut [u64], length: usize, count: usize) -> Answer {
+    if count <= table.len() / 6 {
+        rows::clear(table, count * 6);
+        return Answer {
+            number: 0,
+            start: 0,
+            end: length,
+            count,
+        };
+    }
+    rows::clear(table, 0);
+    Answer {
+        number: 10,
+        start: 0,
+        end: 0,
+        count,
+    }
+}
+
+fn answer(table: &mut [u64], length: usize, r: Read) -> Answer {
+    match r {
+        Read::Done(node, _) => counted(table, length, node.rows),
+        Read::Refused(why) => refused(table, why),
+    }
+}
+
+// (a): a source to its tree.
+pub fn tree(s: &[u8], table: &mut [u64]) -> Answer {
+    match tokens::check_source(s) {
+        Whole::Refused(why) => refused(table, why),
+        Whole::Fine => {
+            let r = reader::tree(s, table);
+            answer(table, s.len(), r)
+        }
+    }
+}
+
+// (b): a source to one expression.
+pub fn expression(s: &[u8], table: &mut [u64]) -> Answer {
+    match tokens::check_source(s) {
+        Whole::Refused(why) => refused(table, why),
+        Whole::Fine => {
+            let r = reader::expression(s, table);
+            answer(table, s.len(), r)
+        }
+    }
+}
+
+// (d): the part of the source that a row of kind 1 spans; else the empty part at the front.
+pub fn name_text(s: &[u8], kind: u64, start: usize, end: usize) -> &[u8]
+    ensures { λ r. ⌜ now r ≡ nameText (now (s .entry)) kind start end ⌝ }
+{
+    if kind != 1 {
+        return &s[..0];
+    }
+    if end < start {
+        return &s[..0];
+    }
+    if s.len() < end {
+        return &s[..0];
+    }
+    &s[start..end]
+}

@@ -1,0 +1,39 @@
+// The lent table of rows: six numbers a row.
+
+ghost use mathlib.Core.Path.{_≡_};
+ghost use Rattle.rows.specs.Rows.{putRow, zeroed};
+
+pub struct Row {
+    pub kind: u64,
+    pub start: usize,
+    pub end: usize,
+    pub children: u64,
+    pub value: u64,
+    pub detail: u64,
+}
+
+// Writes a row at its place, where it fits.
+pub fn put(table: &mut [u64], n: usize, row: Row)
+    ensures { λ r. ⌜ now (table .exit) ≡ putRow (now (table .entry)) n row ⌝ }
+{
+    if n < table.len() / 6 {
+        let i = n * 6;
+        table[i] = row.kind;
+        table[i + 1] = row.start as u64;
+        table[i + 2] = row.end as u64;
+        table[i + 3] = row.children;
+        table[i + 4] = row.value;
+        table[i + 5] = row.detail;
+    }
+}
+
+// Zeros from a place on.
+pub fn clear(table: &mut [u64], from: usize)
+    ensures { λ r. ⌜ now (table .exit) ≡ zeroed (now (table .entry)) from ⌝ }
+{
+    let mut i = from;
+    while i < table.len() {
+        table[i] = 0;
+        i += 1;
+    }
+}
