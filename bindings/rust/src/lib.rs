@@ -1,0 +1,138 @@
+//! Safe functions over the compiled reader. Every text gets an answer: rows, tokens or bytes, or a refusal with its
+//! number and place.
+
+mod c {
+    unsafe extern "C" {
+        pub fn lekhyundo_tree(s: *const u8, n: usize, table: *mut u64, size: usize, answer: *mut u64, four: usize);
+        pub fn lekhyundo_expression(s: *const u8, n: usize, table: *mut u64, size: usize, answer: *mut u64, four: usize);
+        pub fn lekhyundo_token_list(s: *const u8, n: usize, list: *mut super::Token, room: usize, answer: *mut u64, four: usize);
+        pub fn lekhyundo_name(s: *const u8, n: usize, kind: u64, start: usize, end: usize) -> usize;
+        pub fn lekhyundo_decode(s: *const u8, n: usize, out: *mut u8, size: usize, answer: *mut u64, four: usize);
+    }
+}
+
+/// Rows that are enough for any source.
+pub const MOST_ROWS: usize = 98_304;
+
+/// Six numbers: kind, start, end, children, value, detail.
+pub type Row = [u64; 6];
+
+/// A number from 1 to 11, its place, and what is needed for 10.
+#[derive(Clone, Copy, Debug, PartialEq, Eq)]
+pub struct Refusal {
+    pub number: u64,
+    pub start: usize,
+    pub end: usize,
+    pub needed: usize,
+}
+
+impl Refusal {
+    /// What the number means.
+    pub fn meaning(&self) -> &'static str {
+        match self.number {
+            1 => "longer than 65,535 bytes",
+            2 => "byte of 128 or more",
+            3 => "source begins `#!`",
+            4 => "no token starts here",
+            5 => "f-string",
+            6 => "token not usable here",
+            7 => "literal without a value",
+            8 => "left side of an assignment is no path",
+            9 => "nested too deep",
+            10 => "no room",
+            11 => "source ends too early",
+            _ => "unknown number",
+        }
+    }
+}
+
+#[repr(C)]
+#[derive(Clone, Copy, Debug, PartialEq, Eq)]
+pub struct Token {
+    pub code: u64,
+    pub start: usize,
+    pub end: usize,
+}
+
+/// The count, or the refusal.
+fn taken(answer: [u64; 4]) -> Result<usize, Refusal> {
+    let [number, start, end, count] = answer;
+    if number == 0 {
+        Ok(count as usize)
+    } else {
+        Err(Refusal { number, start: start as usize, end: end as usize, needed: count as usize })
+    }
+}
+
+/// A table that can be lent over and over, so that many sources cost one allocation.
+pub struct Reader {
+    table: Vec<u64>,
+}
+
+impl Default for Reader {
+    fn default() -> Self {
+        Reader::with_room(MOST_ROWS)
+    }
+}
+
+impl Reader {
+    pub fn with_room(rows: usize) -> Self {
+        Reader { table: vec![0; rows * 6] }
+    }
+
+    fn rows(&self, count: usize) -> impl ExactSizeIterator<Item = Row> + '_ {
+        self.table[..count * 6].chunks_exact(6).map(|row| row.try_into().expect("six numbers"))
+    }
+
+    /// (a) The rows of a source's tree, children before their parent.
+    pub fn tree(&mut self, source: &[u8]) -> Result<impl ExactSizeIterator<Item = Row> + '_, Refusal> {
+        let mut answer = [0; 4];
+        // SAFETY: each pointer is to that many elements, and the library keeps none.
+        unsafe {
+            c::lekhyundo_tree(source.as_ptr(), source.len(), self.table.as_mut_ptr(), self.table.len(), answer.as_mut_ptr(), 4)
+        };
+        taken(answer).map(|count| self.rows(count))
+    }
+
+    /// (b) The rows of one expression.
+    pub fn expression(&mut self, source: &[u8]) -> Result<impl ExactSizeIterator<Item = Row> + '_, Refusal> {
+        let mut answer = [0; 4];
+        // SAFETY: as above.
+        unsafe {
+            c::lekhyundo_expression(source.as_ptr(), source.len(), self.table.as_mut_ptr(), self.table.len(), answer.as_mut_ptr(), 4)
+        };
+        taken(answer).map(|count| self.rows(count))
+    }
+}
+
+/// (c) The tokens of a source.
+pub fn tokens(source: &[u8]) -> Result<Vec<Token>, Refusal> {
+    // No source that is accepted has more tokens than bytes, or more than 65,535 of those.
+    let mut list = vec![Token { code: 0, start: 0, end: 0 }; source.len().min(65_536)];
+    let mut answer = [0; 4];
+    // SAFETY: as above.
+    unsafe {
+        c::lekhyundo_token_list(source.as_ptr(), source.len(), list.as_mut_ptr(), list.len(), answer.as_mut_ptr(), 4)
+    };
+    list.truncate(taken(answer)?);
+    Ok(list)
+}
+
+/// (d) The text of a name row; empty for any other row and for a span that doesn't fit.
+pub fn name<'a>(source: &'a [u8], row: &Row) -> &'a [u8] {
+    let (start, end) = (row[1] as usize, row[2] as usize);
+    // SAFETY: as above.
+    let length = unsafe { c::lekhyundo_name(source.as_ptr(), source.len(), row[0], start, end) };
+    if length == 0 { &source[..0] } else { &source[start..start + length] }
+}
+
+/// (e) A string token, quotes included, decoded to UTF-8.
+pub fn decode(token: &[u8]) -> Result<Vec<u8>, Refusal> {
+    let mut out = vec![0; token.len()];
+    let mut answer = [0; 4];
+    // SAFETY: as above.
+    unsafe { c::lekhyundo_decode(token.as_ptr(), token.len(), out.as_mut_ptr(), out.len(), answer.as_mut_ptr(), 4) };
+    let count = taken(answer)?;
+    out.truncate(count);
+    Ok(out)
+}

@@ -1,0 +1,56 @@
+use lekhyundo::{Reader, Refusal, Token, decode, name, tokens};
+
+fn refusal(number: u64, start: usize, end: usize) -> Refusal {
+    Refusal { number, start, end, needed: 0 }
+}
+
+#[test]
+fn a_tree_has_the_rows_of_document_01() {
+    let mut reader = Reader::default();
+    let rows: Vec<_> = reader.tree(b"const A: u8 = 1;").unwrap().collect();
+    assert_eq!(
+        rows,
+        [[1, 6, 7, 0, 0, 0], [1, 9, 11, 0, 0, 0], [2, 9, 11, 1, 0, 0], [6, 9, 11, 1, 0, 0], [10, 14, 15, 0, 1, 0], [40, 0, 16, 3, 0, 0], [43, 0, 16, 1, 0, 0]]
+    );
+    assert_eq!(name(b"const A: u8 = 1;", &rows[0]), b"A");
+    assert_eq!(name(b"const A: u8 = 1;", &rows[1]), b"u8");
+    assert_eq!(name(b"const A: u8 = 1;", &rows[2]), b"");
+    assert_eq!(name(b"const", &[1, 3, 9, 0, 0, 0]), b"");
+    assert_eq!(name(b"const", &[1, 4, 3, 0, 0, 0]), b"");
+}
+
+#[test]
+fn refusals_have_their_number_and_place() {
+    let mut reader = Reader::default();
+    for (source, number, start, end) in [
+        (&b"a==b==c"[..], 6, 4, 6),
+        (b"AS4294967296", 7, 0, 12),
+        (b"1=2", 8, 0, 1),
+        (b"", 11, 0, 0),
+        (b"\xff", 2, 0, 1),
+        (b"#!", 3, 0, 2),
+        (b"f\"\"", 5, 0, 2),
+        (b"$", 4, 0, 1),
+    ] {
+        assert_eq!(reader.expression(source).err(), Some(refusal(number, start, end)), "{source:?}");
+    }
+    assert_eq!(reader.expression(&[b'('; 33]).err(), Some(refusal(9, 32, 33)));
+    assert_eq!(reader.tree(&[b' '; 65_536]).err(), Some(refusal(1, 65_535, 65_535)));
+}
+
+#[test]
+fn no_room_says_how_much_is_needed() {
+    let mut reader = Reader::with_room(2);
+    let no_room = reader.expression(b"1+2").err();
+    assert_eq!(no_room, Some(Refusal { number: 10, start: 0, end: 0, needed: 3 }));
+    assert_eq!(Reader::with_room(3).expression(b"1+2").unwrap().len(), 3);
+}
+
+#[test]
+fn tokens_and_strings() {
+    assert_eq!(tokens(b"if ::1"), Ok(vec![Token { code: 11, start: 0, end: 2 }, Token { code: 1, start: 3, end: 6 }]));
+    assert_eq!(tokens(b"'"), Err(refusal(4, 0, 1)));
+    assert_eq!(decode(br#""a\u{e9}\n""#), Ok("a\u{e9}\n".as_bytes().to_vec()));
+    assert_eq!(decode(b"\"a"), Err(refusal(7, 0, 2)));
+    assert_eq!(decode(b""), Err(refusal(7, 0, 0)));
+}

@@ -1,0 +1,67 @@
+/* Lekhyundo: a proved reader of Roto route filters. The functions of liblekhyundo.a (x86-64; `rt staticlib lekhyundo`).
+ *
+ * A source, a table or an answer is lent as a pointer and the number of its elements; the pointer may be anything but must
+ * not be null or unaligned, also for 0 elements, and nothing is kept of it. No function allocates, fails or asks anything of the bytes.
+ * What each says is proved, but for (a) and (b): those are proved to be safe and to end, and their answers are only run against the Rust.
+ *
+ * An answer is four numbers: the number of docs (README.md), where its place starts and ends, and a count: the rows or
+ * bytes for 0, those needed for 10, else 0. If fewer than four are lent, only those are written.
+ */
+#ifndef LEKHYUNDO_H
+#define LEKHYUNDO_H
+
+#include <stddef.h>
+#include <stdint.h>
+
+#ifdef __cplusplus
+extern "C" {
+#endif
+
+/* (a) A source to its tree. A row is six numbers: kind, start, end, children, value, detail; children come before their
+ * parent. Accepted: the rows stand first in the table and zeros fill the rest. Refused: zeros throughout. Room is
+ * table_length / 6; 98,304 rows serve any source. */
+void lekhyundo_tree(const uint8_t *source, size_t source_length, uint64_t *table, size_t table_length,
+                    uint64_t *answer, size_t answer_length);
+
+/* (b) A source to one expression, likewise. */
+void lekhyundo_expression(const uint8_t *source, size_t source_length, uint64_t *table, size_t table_length,
+                          uint64_t *answer, size_t answer_length);
+
+/* A token: its code (README.md) and the bytes from start up to end. */
+struct lekhyundo_token {
+    uint64_t code;
+    size_t start;
+    size_t end;
+};
+
+/* (c) A source's tokens. Accepted: they stand first in the list and zero tokens fill the rest. Refused: zero tokens throughout.
+ * The numbers are 0 to 5 and 10. No source has more tokens than bytes. */
+void lekhyundo_token_list(const uint8_t *source, size_t source_length, struct lekhyundo_token *list, size_t list_length,
+                          uint64_t *answer, size_t answer_length);
+
+/* The same answer with room for so many tokens, without a list. */
+void lekhyundo_tokens(const uint8_t *source, size_t source_length, size_t room, uint64_t *answer, size_t answer_length);
+
+/* The token at or behind a place, five numbers: 0, start, end, code, word; or its refusal: 4, 5, or 11 at the end of the
+ * source, start, end, 0, 0. The next token is had from the end of this one. */
+void lekhyundo_step(const uint8_t *source, size_t source_length, size_t at, uint64_t *out, size_t out_length);
+
+/* (d) The length of the text of a name row, given its first three numbers: the text starts at source + start. 0 for a row of
+ * another kind and for a span that doesn't fit the source. */
+size_t lekhyundo_name(const uint8_t *source, size_t source_length, uint64_t kind, size_t start, size_t end);
+
+/* (e) A string token, quotes included, decoded to bytes. Accepted: the bytes stand first in out and zeros fill the rest.
+ * Refused: zeros throughout. A token never decodes to more bytes than it has. */
+void lekhyundo_decode(const uint8_t *source, size_t source_length, uint8_t *out, size_t out_length,
+                      uint64_t *answer, size_t answer_length);
+
+/* What a literal of a token code from start to end says, four numbers: 0, and its row's kind, value and detail; or 7 and zeros
+ * where it has no value. */
+void lekhyundo_literal(const uint8_t *source, size_t source_length, uint64_t code, size_t start, size_t end,
+                       uint64_t *out, size_t out_length);
+
+#ifdef __cplusplus
+}
+#endif
+
+#endif
