@@ -1,4 +1,6 @@
 // Answers as lines of text on standard output, in document 01's form.
+ghost use Prim.Native.Nat.{_+_, _≤_};
+ghost use lib.ListN.{length};
 use libc::STDOUT_FILENO;
 use tokens::Answer;
 use tokens::Cursor;
@@ -94,4 +96,47 @@ fn decoded_within(s: &[u8], out: &mut [u8], room: usize) {
 pub fn answer_decode(s: &[u8], room: usize) {
     let mut out = io::large_buffer();
     decoded_within(s, &mut out, room);
+}
+
+// A row: its six numbers.
+fn row_line(table: &[u64], at: usize)
+    requires { ⌜ at + 6 ≤ length (now table) ⌝ }
+{
+    io::print_decimal(STDOUT_FILENO, table[at]);
+    number(table[at + 1]);
+    number(table[at + 2]);
+    number(table[at + 3]);
+    number(table[at + 4]);
+    number(table[at + 5]);
+    io::write_all(STDOUT_FILENO, b"\n");
+}
+
+// The rows from the front on, a line each, as far as the table reaches.
+fn row_lines(table: &[u64], count: usize) {
+    let mut i = 0;
+    while i < count {
+        if i < table.len() / 6 {
+            row_line(table, i * 6);
+        }
+        i += 1;
+    }
+}
+
+fn answer_rows(a: Answer, table: &[u64]) {
+    head(a);
+    if a.number == 0 {
+        row_lines(table, a.count);
+    }
+}
+
+// (a): the answer, and the rows where it accepts.
+pub fn answer_tree(s: &[u8], table: &mut [u64]) {
+    let a = entry::tree(s, table);
+    answer_rows(a, table);
+}
+
+// (b): likewise.
+pub fn answer_expression(s: &[u8], table: &mut [u64]) {
+    let a = entry::expression(s, table);
+    answer_rows(a, table);
 }
