@@ -1,36 +1,17 @@
 // Answers cases from standard input, one after the other: a line `ENTRY LENGTH ROOM`, then LENGTH bytes.
 ghost use mathlib.Core.Path.{_≡_};
-ghost use Prim.Native.Nat.{_≤_, _<_};
 ghost use lib.ListN.{length};
+use libc::STDIN_FILENO;
 use libc::STDOUT_FILENO;
 
-// A number of a header and the place behind it.
-struct Parsed {
-    value: usize,
-    next: usize,
-}
+// More cases than anyone keeps.
+const MOST_CASES: usize = 1000000;
 
-// The number at a place; digits past a million aren't taken.
-fn figure(s: &[u8], at: usize) -> Parsed
-    ensures { λ r. ⌜ at ≤ r .next ⌝ }
-{
-    let mut value: usize = 0;
-    let mut i = at;
-    while i < s.len() {
-        let b = s[i];
-        if b < 48 {
-            return Parsed { value, next: i };
-        }
-        if 57 < b {
-            return Parsed { value, next: i };
-        }
-        if 1000000 <= value {
-            return Parsed { value, next: i };
-        }
-        value = value * 10 + wide(b - 48);
-        i += 1;
-    }
-    Parsed { value, next: i }
+// The next byte of the cases, a newline behind the last.
+fn next_byte() -> u8 {
+    let mut one = [b'\n'; 1];
+    io::read_full(STDIN_FILENO, &mut one);
+    one[0]
 }
 
 fn wide(b: u8) -> usize
@@ -39,61 +20,96 @@ fn wide(b: u8) -> usize
     b as usize
 }
 
-// Entries: `c` source to token list, `e` a string token decoded.
-fn answer(entry: u8, source: &[u8], room: usize) {
-    if entry == b'c' {
-        print::answer_tokens(source, room);
+// The next number of a header, of at most six digits, and the byte behind it taken too.
+fn figure() -> usize {
+    let mut value: usize = 0;
+    let mut digits: usize = 0;
+    while digits < 7 {
+        let b = next_byte();
+        if b < 48 {
+            return value;
+        }
+        if 57 < b {
+            return value;
+        }
+        if value < 1000000 {
+            value = value * 10 + wide(b - 48);
+        }
+        digits += 1;
     }
-    if entry == b'e' {
-        print::answer_decode(source, room);
+    value
+}
+
+// (a) in a table with so many rows, and with some numbers behind them that are no row.
+fn tree(source: &[u8], room: usize, table: &mut [u64]) {
+    if room < table.len() / 6 {
+        print::answer_tree(source, &mut table[..room * 6 + source.len() % 6]);
+    } else {
+        print::answer_tree(source, table);
     }
 }
 
-// Answers the case whose header starts at `at`; the place behind its bytes, or the end where there is none.
-fn case(s: &[u8], at: usize) -> usize
-    requires { ⌜ at < length (now s) ⌝ }
-    ensures { λ r. ⌜ at < r ⌝ }
-{
-    if s.len() - at < 8 {
-        return s.len();
+// (b), likewise.
+fn expression(source: &[u8], room: usize, table: &mut [u64]) {
+    if room < table.len() / 6 {
+        print::answer_expression(source, &mut table[..room * 6 + source.len() % 6]);
+    } else {
+        print::answer_expression(source, table);
     }
-    let length = figure(s, at + 2);
-    let from = length.next;
-    if s.len() <= from {
-        return s.len();
+}
+
+// Entries: `a` source to tree, `b` to one expression, `c` to token list, `e` a string token decoded.
+fn answer(entry: u8, source: &[u8], room: usize, table: &mut [u64]) {
+    match entry {
+        b'a' => tree(source, room, table),
+        b'b' => expression(source, room, table),
+        b'c' => print::answer_tokens(source, room),
+        b'e' => print::answer_decode(source, room),
+        _ => {}
     }
-    let room = figure(s, from + 1);
-    let line = room.next;
-    if s.len() <= line {
-        return s.len();
+}
+
+// Answers the next case, if there is one and the buffer holds it.
+fn case(buffer: &mut [u8], table: &mut [u64]) -> bool {
+    let entry = next_byte();
+    if entry == b'\n' {
+        return false;
     }
-    let start = line + 1;
-    let count = length.value;
-    if s.len() - start < count {
-        return s.len();
+    next_byte();
+    let length = figure();
+    let room = figure();
+    if buffer.len() < length {
+        return false;
     }
-    let end = start + count;
-    answer(s[at], &s[start..end], room.value);
+    let count = io::read_full(STDIN_FILENO, &mut buffer[..length]);
+    if count < length {
+        return false;
+    }
+    answer(entry, &buffer[..length], room, table);
     io::write_all(STDOUT_FILENO, b"\n");
-    end
+    true
 }
 
-fn answer_all(s: &[u8]) {
-    let mut at = 0;
-    while at < s.len() {
-        at = case(s, at);
+fn answer_all(buffer: &mut [u8], table: &mut [u64]) {
+    let mut i = 0;
+    while i < MOST_CASES {
+        let more = case(buffer, table);
+        if !more {
+            return;
+        }
+        i += 1;
     }
 }
 
-// Zeros for all cases; the contract gives only the length, which lending the array needs.
-fn case_buffer() -> [u8; 524288]
-    ensures { λ r. ⌜ 524288 ≡ length r ⌝ }
+// Zeros for the rows, with more room than any case asks for; the contract gives only the length, which lending it needs.
+fn case_table() -> [u64; 65536]
+    ensures { λ r. ⌜ 65536 ≡ length r ⌝ }
 {
-    [0u8; 524288]
+    [0; 65536]
 }
 
 fn main() {
-    let mut buffer = case_buffer();
-    let length = io::read_full(libc::STDIN_FILENO, &mut buffer);
-    answer_all(&buffer[..length]);
+    let mut buffer = io::large_buffer();
+    let mut table = case_table();
+    answer_all(&mut buffer, &mut table);
 }

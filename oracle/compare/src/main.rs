@@ -12,6 +12,7 @@ use run::{Options, Sink};
 
 const USAGE: &str = "\
 compare LEFT RIGHT [OPTION ..] MODE ..   compares two programs that speak the protocol of oracle/README.md
+compare cases [OPTION ..] MODE ..        prints the cases that a mode makes
 compare sample COUNT SEED PROGRAM ..     prints cases of entry (c) with PROGRAM's answers (see vectors/README.md)
 
 LEFT and RIGHT: oracle, full, ours (by tools/batch), or the path of a program.
@@ -85,10 +86,9 @@ struct Arguments {
     mode: Vec<String>,
 }
 
-fn arguments(words: &[String]) -> Arguments {
+fn arguments(programs: [Vec<String>; 2], words: &[String]) -> Arguments {
     let mut rest = words.iter();
     let mut word = || rest.next().cloned();
-    let programs = [program(&word().unwrap_or_else(|| usage())), program(&word().unwrap_or_else(|| usage()))];
     let options = Options { programs, spoil: None, classes: false };
     let mut all =
         Arguments { options, entry: None, list: String::new(), before: vec![], after: vec![], mode: vec![] };
@@ -132,10 +132,15 @@ fn main() {
         sample::print(number(&words[1]), number(&words[2]), &words[3..]);
         return;
     }
+    if words.first().is_some_and(|word| word == "cases") {
+        let all = arguments([vec![], vec![]], &words[1..]);
+        run::print(|sink| generate(&all, sink));
+        return;
+    }
     if words.len() < 3 {
         usage();
     }
-    let all = arguments(&words);
+    let all = arguments([program(&words[0]), program(&words[1])], &words[2..]);
     let begun = std::time::Instant::now();
     let report = run::run(&all.options, |sink| generate(&all, sink));
     report.print();

@@ -131,6 +131,20 @@ pub fn run(options: &Options, generate: impl FnOnce(&mut Sink) + Send) -> Report
     report
 }
 
+/// Writes the cases that a generator makes to standard output, in the form that a program reads.
+pub fn print(generate: impl FnOnce(&mut Sink) + Send) {
+    let (end, batches) = sync_channel::<Arc<Batch>>(BATCHES_AHEAD);
+    thread::scope(|scope| {
+        scope.spawn(move || {
+            let mut sink = Sink { batch: Batch::default(), ends: vec![end], wanted: true };
+            generate(&mut sink);
+            sink.send();
+        });
+        let mut out = std::io::stdout().lock();
+        batches.iter().all(|batch| out.write_all(&batch.input).is_ok());
+    });
+}
+
 fn start(program: &[String]) -> Child {
     Command::new(&program[0])
         .args(&program[1..])

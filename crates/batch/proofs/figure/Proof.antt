@@ -1,32 +1,29 @@
-use Prim.Native.Nat.{_-_, _≤_}
-use lib.ListN.{length}
+use Prim.Native.Nat.{_-_}
 use borrow.Author.Needs.{needs}
 use Rattle.batch.proofs.figure.Statement.{statement}
 use Rattle.batch.proofs.figure.Tie as tie
 use Rattle.batch.proofs.figure.Reads as reads
 use Rattle.batch.proofs.figure.Lts as lts
+use Rattle.batch.proofs.next_byte.Reads as next-byte-reads
 use Rattle.batch.proofs.wide.Reads as wide-reads
 
 abbrev Inv-loop : tie.InvT-loop
-Inv-loop s at value₀ i₀ value i = at ≤ i
+Inv-loop value₀ digits₀ value digits = Unit {0}
 
 abbrev μ-loop : tie.MeasureT-loop
-μ-loop s at value₀ i₀ value i = length s - i
+μ-loop value₀ digits₀ value digits = 7 - digits
 
 loop-holds : tie.Need-loop-holds Inv-loop μ-loop
 loop-holds c = search needs
 
-shared-slice-read-b : tie.Need-shared-slice-read-b Inv-loop μ-loop
-shared-slice-read-b c = search needs
+next-byte-requires : tie.Need-next-byte-requires Inv-loop μ-loop
+next-byte-requires c κs = search needs
 
 returns : tie.Need-returns Inv-loop μ-loop
 returns c = search needs
 
 returns-2 : tie.Need-returns-2 Inv-loop μ-loop
 returns-2 c = search needs
-
-returns-3 : tie.Need-returns-3 Inv-loop μ-loop
-returns-3 c = search needs
 
 mul-value : tie.Need-mul-value Inv-loop μ-loop
 mul-value c = search needs
@@ -37,8 +34,8 @@ wide-requires c κs = search needs
 add-value : tie.Need-add-value Inv-loop μ-loop
 add-value c = search needs
 
-add-i : tie.Need-add-i Inv-loop μ-loop
-add-i c = search needs
+add-digits : tie.Need-add-digits Inv-loop μ-loop
+add-digits c = search needs
 
 loop-less : tie.Need-loop-less Inv-loop μ-loop
 loop-less c = search needs
@@ -46,8 +43,8 @@ loop-less c = search needs
 loop-again : tie.Need-loop-again Inv-loop μ-loop
 loop-again c = search needs
 
-returns-4 : tie.Need-returns-4 Inv-loop μ-loop
-returns-4 c = search needs
+returns-3 : tie.Need-returns-3 Inv-loop μ-loop
+returns-3 c = search needs
 
 pub figure-spec : {M : Type 1} → statement M
 figure-spec =
@@ -56,14 +53,13 @@ figure-spec =
     Inv-loop
     μ-loop
     loop-holds
-    shared-slice-read-b
+    next-byte-requires
     returns
     returns-2
-    returns-3
     mul-value
     wide-requires
     add-value
-    add-i
+    add-digits
     loop-less
     loop-again
-    returns-4)
+    returns-3)

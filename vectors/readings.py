@@ -1,0 +1,83 @@
+"""readings.py RECORDED ..: cases of entries (a) and (b) in the form of the drivers: document 01's worked pairs and its printer's
+source, each form, literals, the limits alone and together, the longest sources, little room, and the short ones among recorded cases."""
+import itertools, sys
+
+LONGEST, ROOM, SHORT, KEPT = 65535, 10000, 70, 1500
+PRINTER = b'const A: u8 = 1;'
+
+pairs = [b'AS4294967295', b'AS4294967296', b'18446744073709551615u64', b'300u8', b'1.2.3.', b'::1', b'::ffff:1.2.3.4', b'"a"', b'"a" ', b'1+2*3',
+         b'a==b==c', b'if x {y: 1} {}', b'1+2', b'(' * 33, b'f"a"', b'1 $', b'1=2', b'{if a {} -b}', b'f(x {y: 1})', b'if f(x {y: 1}) {}', b'-(a)']
+
+forms = [b'match x {_ => 1}', b'match x {_ if y => 1, A => {} B(c, d,) if z {q: 1} => 2}', b'match x {_(a) => 1}', b'match x {A => 1 B => 2}',
+         b'match x {A => {}, _ => {},}', b'match x {A() => {y: 1}}', b'{let _: a.b[c, d,]? = 1; import a.{b, c.{d}}; 1}', b'{if a {}; while b {} for c in d {} match e {}}',
+         b'{if a {}.b}', b'{(if a {}).b}', b'a.b(c, 1,)?.d', b'((a)) += 1', b'(a.b)()=1', b'a = b = c', b'a = return', b'1 + return', b'return return', b'if return {} {}',
+         b'while a {b: 1} {}', b'for a in (b {c: 1}) {}', b'{a: 1, b: 2,}', b'{a}', b'{}', b'a {}', b'a||b&&c<d+e*-f', b'a-b-c', b'a<b>c', b'!a?', b'--a', b'a.1']
+declarations = [b'fn f() {}', b'fn f(a: {b: !, c: ()?},) -> a.b[c, d,] {}', b'fn f(a) {}', b'filter f(a: b) {accept}', b'filtermap f() {reject}', b'test t {}', b'test t() {}',
+                b'import pkg.dep.super.std;', b'import a.{b, c.{d, e}};', b'import a.{b,};', b'import a.{};', b'const A: ! = {};', b'const A: () = a = 1;', b'const A = 1;',
+                b'record A {}', b'enum A {}', b'fn record() {}', PRINTER * 2 + b'//']
+
+suffixes = [b'', b'i8', b'i16', b'i32', b'i64', b'u8', b'u16', b'u32', b'u64', b'f32', b'f64', b'i', b'u128', b'f16', b'I8', b'u8_', b'e5', b'_u8', b'x']
+bodies = [b'0', b'7', b'300', b'007', b'1_0', b'1__', b'9223372036854775807', b'9223372036854775808', b'1.5', b'1.', b'1.5_', b'1.2.3', b'0.0', b'1._5']
+literals = [body + suffix for body in bodies for suffix in suffixes]
+literals += [b'0x', b'0x0', b'0xfF', b'0x_1', b'0xg', b'0x7fffffffffffffff', b'0x8000000000000000', b'0x007fffffffffffffff', b'0x1u8', b'0X1',
+             b'AS', b'AS0', b'AS007', b'AS1', b'AS4294967295', b'AS4294967296', b'AS00004294967296', b'AS1_0', b'AS1a', b'as1', b'ASx',
+             b'0.0.0.0', b'255.255.255.255', b'256.0.0.0', b'0.0.0.256', b'01.2.3.4', b'1.2.3.04', b'00.0.0.0', b'1.2.3', b'1.2.3.', b'1.2.3.4.5', b'1.2.3.4a',
+             b'1.2.3.0004', b'1..2.3', b'::', b'::1', b'1::', b':::', b'1:2:3:4:5:6:7:8', b'1:2:3:4:5:6:7', b'1:2:3:4:5:6:7:8:9', b'1::2::3', b'1:2:3:4:5:6:7::',
+             b'::2:3:4:5:6:7:8', b'1::3:4:5:6:7:8', b'1:2:3:4::5:6:7:8', b'ffff:FFFF::', b'12345::', b'g::', b':1', b'1:', b'a:b', b'1:2:', b'::1.2.3.4', b'::1g',
+             b'true', b'false', b'True', b'true1', b'true ', b'!false', b"'a' ", b"'a'", b"'' ", b"'ab' ", b"'\\n' ", b"'\\'' ", b"'\\\\' ", b"'\\\"' ", b"'\\0' ", b"'\\q' ",
+             b"'\\x41' ", b"'\\x7f' ", b"'\\x80' ", b"'\\u{0}' ", b"'\\u{10ffff}' ", b"'\\u{110000}' ", b"'\\u{d800}' ", b"'\\u{1_0}' ", b"'\\u{}' ",
+             b"'\n' ", b"'\t' ", b"'\r' ", b"'\"' ", b"'\\", b"'a"]
+
+# The four limits: each makes a source that goes so deep, round another.
+around = {
+    'parentheses': lambda n, x: b'(' * n + x + b')' * n,
+    'blocks': lambda n, x: b'{' * n + x + b'}' * n,
+    'calls': lambda n, x: b'f(' * n + x + b')' * n,
+    'records': lambda n, x: b'{a:' * n + x + b'}' * n,
+    'nots': lambda n, x: b'!' * n + x,
+    'signs': lambda n, x: (b'!-' * n)[:n] + x,
+    'returns': lambda n, x: b'return ' * n + x,
+    'mixed': lambda n, x: (b'return accept reject ' * n)[:7 * n] + x,
+    'ifs': lambda n, x: b'if ' * n + x + b'{}' * n,
+    'whiles': lambda n, x: b'while ' * n + x + b'{}' * n,
+    'fors': lambda n, x: b'for a in ' * n + x + b'{}' * n,
+    'matches': lambda n, x: b'match ' * n + x + b'{}' * n,
+    'bracketed': lambda n, x: b'while (' * n + x + b'){}' * n,
+    'chain': lambda n, x: b'if a{}' + b'else if a{}' * n + b'else{' + x + b'}',
+    'bodies': lambda n, x: b'if a{' * n + x + b'}' * n,
+    'arms': lambda n, x: b'match a{b=>' * n + x + b'}' * n,
+    'guards': lambda n, x: b'match a{b if ' * n + x + b'=>c}' * n}
+limits = [f(n, x) for f in around.values() for n in (31, 32, 33, 34) for x in (b'a', b'', b'0x')]
+together = ('parentheses', 'blocks', 'signs', 'returns', 'ifs', 'fors', 'chain')
+limits += [around[f](n, around[g](m, b'a')) for f, g in itertools.permutations(together, 2) for n in (31, 32, 33) for m in (31, 32, 33)]
+limits += [around['chain'](32, around['ifs'](32, around['parentheses'](n, around['signs'](32, b'a')))) for n in (30, 31, 32)]
+trees = [b'import ' + b'a.{' * n + b'a' + b'}' * n + b';' for n in (31, 32, 33, 34)]
+trees += [b'const A: ' + b'a[' * n + b']' * n + b' = 1;' for n in (31, 32, 33, 34)]
+trees += [b'const A: ' + b'{a:' * n + b'!' + b'}' * n + b' = 1;' for n in (31, 32, 33, 34)]
+trees += [b'fn f() ' + around['blocks'](n, b'') for n in (31, 32, 33, 34)]
+
+
+def filled(before, fill, after, length=LONGEST):
+    room = length - len(before) - len(after)
+    return before + (fill * (room // len(fill) + 1))[:room] + after
+
+
+long = [(b'a', filled(b'', b' ', b'')), (b'a', filled(b'', b' ', b'', LONGEST + 1)), (b'a', filled(PRINTER, b'\n', PRINTER)),
+        (b'b', filled(b'', b'name', b'')), (b'b', filled(b'"', b'text ', b'" ')), (b'b', filled(b'', b'a+', b'a')), (b'a', filled(b'//', b'-', b'\n' + PRINTER, LONGEST - 1))]
+
+cases = [(entry, source, ROOM) for entry, source in [(b'a', b''), (b'a', PRINTER), (b'a', b'#!a'), (b'a', b'\xff'), (b'a', b'const A: u8 = f""')] + long]
+cases += [(b'b', source, ROOM) for source in pairs + forms + literals + limits] + [(b'a', source, ROOM) for source in declarations + trees]
+# A table has six numbers for each row of the room and as many more as the source's length leaves by six: 0 to 5 without room.
+cases += [(entry, b'1' * n, 0) for entry in (b'a', b'b') for n in range(6)]
+cases += [(b'b', b'1+2', room) for room in range(5)] + [(b'a', PRINTER, room) for room in range(9)]
+for name in sys.argv[1:]:
+    recorded, at, kept = open(name, 'rb').read(), 0, 0
+    while at < len(recorded) and kept < KEPT:
+        line = recorded.index(b'\n', at) + 1
+        header = recorded[at:line].split()
+        at = line + int(header[1])
+        if at - line <= SHORT and recorded[line:line + 1] != b'"':
+            cases.append((header[0], recorded[line:at], min(int(header[2]), ROOM) if len(header) > 2 else ROOM))
+            kept += 1
+for entry, source, room in cases:
+    sys.stdout.buffer.write(b'%s %d %d\n' % (entry, len(source), room) + source)
