@@ -1,5 +1,6 @@
-"""readings.py RECORDED ..: cases of entries (a) and (b) in the form of the drivers: document 01's worked pairs and its printer's
-source, each form, literals, the limits alone and together, the longest sources, little room, and the short ones among recorded cases."""
+"""readings.py DEEPEST RECORDED ..: cases of entries (a) and (b) in the form of the drivers: document 01's worked pairs and its printer's
+source, each form, literals, the limits alone and together, the longest sources, the one that nests deepest, little room, and the
+short ones among recorded cases."""
 import itertools, sys
 
 LONGEST, ROOM, SHORT, KEPT = 65535, 10000, 70, 1500
@@ -65,12 +66,12 @@ def filled(before, fill, after, length=LONGEST):
 long = [(b'a', filled(b'', b' ', b'')), (b'a', filled(b'', b' ', b'', LONGEST + 1)), (b'a', filled(PRINTER, b'\n', PRINTER)),
         (b'b', filled(b'', b'name', b'')), (b'b', filled(b'"', b'text ', b'" ')), (b'b', filled(b'', b'a+', b'a')), (b'a', filled(b'//', b'-', b'\n' + PRINTER, LONGEST - 1))]
 
-cases = [(entry, source, ROOM) for entry, source in [(b'a', b''), (b'a', PRINTER), (b'a', b'#!a'), (b'a', b'\xff'), (b'a', b'const A: u8 = f""')] + long]
+cases = [(entry, source, ROOM) for entry, source in [(b'a', b''), (b'a', PRINTER), (b'a', b'#!a'), (b'a', b'\xff'), (b'a', b'const A: u8 = f""'), (b'a', open(sys.argv[1], 'rb').read())] + long]
 cases += [(b'b', source, ROOM) for source in pairs + forms + literals + limits] + [(b'a', source, ROOM) for source in declarations + trees]
 # A table has six numbers for each row of the room and as many more as the source's length leaves by six: 0 to 5 without room.
 cases += [(entry, b'1' * n, 0) for entry in (b'a', b'b') for n in range(6)]
 cases += [(b'b', b'1+2', room) for room in range(5)] + [(b'a', PRINTER, room) for room in range(9)]
-for name in sys.argv[1:]:
+for name in sys.argv[2:]:
     recorded, at, kept = open(name, 'rb').read(), 0, 0
     while at < len(recorded) and kept < KEPT:
         line = recorded.index(b'\n', at) + 1

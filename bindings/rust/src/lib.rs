@@ -14,6 +14,9 @@ mod c {
 /// Rows that are enough for any source.
 pub const MOST_ROWS: usize = 98_304;
 
+/// Bytes of stack that are enough for any source. Most sources take a few thousand; only nesting at all limits takes this.
+pub const MOST_STACK: usize = 6 << 20;
+
 /// Six numbers: kind, start, end, children, value, detail.
 pub type Row = [u64; 6];
 

@@ -26,17 +26,32 @@ pub type WholeSource = fn(&[u8]) -> Result<&str, Refusal>;
 
 pub fn run(whole: WholeSource) -> std::io::Result<()> {
     let arguments: Vec<String> = std::env::args().skip(1).collect();
-    if arguments.first().is_some_and(|word| word == "time") {
-        return time(&arguments[1..], |source| {
-            whole(source).and_then(tokens).map_or(0, |list| list.len() as u64)
-        });
-    }
     std::panic::set_hook(Box::new(|_| {}));
     std::thread::Builder::new()
         .stack_size(STACK)
-        .spawn(move || serve(|case, out| answer(whole, case, out)))?
+        .spawn(move || match arguments.first().map(String::as_str) {
+            Some("tokens") => time_tokens(whole, &arguments[1..]),
+            Some("trees") => time_trees(whole, &arguments[1..]),
+            _ => serve(|case, out| answer(whole, case, out)),
+        })?
         .join()
         .expect("every failure is caught where a case is answered")
+}
+
+fn time_tokens(whole: WholeSource, arguments: &[String]) -> std::io::Result<()> {
+    let list = |source: &[u8]| whole(source).and_then(tokens);
+    time(arguments, |source| list(source).map_or(0, |list| list.len() as u64), |source| {
+        std::hint::black_box(list(source).is_ok());
+    })
+}
+
+/// The Rust's own tree, made and dropped; the rows made of it are counted but not timed.
+fn time_trees(whole: WholeSource, arguments: &[String]) -> std::io::Result<()> {
+    let rows = |source: &[u8]| whole(source).and_then(tree).map_or(0, |rows| rows.len() as u64);
+    time(arguments, rows, |source| {
+        let parsed = |text| Parser::parse(0, &mut Spans::default(), text).is_ok();
+        std::hint::black_box(whole(source).is_ok_and(parsed));
+    })
 }
 
 fn answer(whole: WholeSource, case: &Case<'_>, out: &mut String) {

@@ -15,6 +15,8 @@ struct Token {
 const ZERO: Token = Token { code: 0, start: 0, end: 0 };
 const UNSET: Token = Token { code: 77, start: 7, end: 7 };
 
+type Entry = unsafe extern "C" fn(*const u8, usize, *mut u64, usize, *mut u64, usize);
+
 unsafe extern "C" {
     /// (c) into `list`; out: number, start, end, count.
     fn lekhyundo_token_list(
@@ -118,17 +120,20 @@ fn walk(source: &[u8], list: [u64; 4], written: &[Token], out: &mut String) -> O
     }
 }
 
+fn read(entry: Entry, source: &[u8], table: &mut [u64]) -> [u64; 4] {
+    let mut out = [u64::MAX; 4];
+    // SAFETY: as above.
+    unsafe { entry(source.as_ptr(), source.len(), table.as_mut_ptr(), table.len(), out.as_mut_ptr(), out.len()) };
+    out
+}
+
 /// (a) and (b), into a table that is not zeros before, with numbers behind the last whole row. What is left must be zeros.
 fn rows(case: &Case<'_>, out: &mut String) {
-    let read = if case.entry == b'a' { lekhyundo_tree } else { lekhyundo_expression };
+    let entry = if case.entry == b'a' { lekhyundo_tree } else { lekhyundo_expression };
     // No source has more than three rows to two bytes, and one.
     let room = case.room.min(case.source.len() as u64 * 3 / 2 + 2) as usize;
     let mut table = vec![0xa5u64; room * 6 + case.source.len() % 6];
-    let mut answer = [u64::MAX; 4];
-    // SAFETY: each pointer is to that many elements, and the library keeps none.
-    unsafe {
-        read(case.source.as_ptr(), case.source.len(), table.as_mut_ptr(), table.len(), answer.as_mut_ptr(), answer.len())
-    };
+    let answer = read(entry, case.source, &mut table);
     let [number, start, end, count] = answer;
     let written = if number == 0 { count as usize * 6 } else { 0 };
     match number {
@@ -166,20 +171,43 @@ fn decode(case: &Case<'_>, out: &mut String) {
     }
 }
 
+/// Into a list of exactly the tokens that there are.
+fn time_tokens(arguments: &[String]) -> std::io::Result<()> {
+    let list = std::cell::RefCell::new(Vec::new());
+    let made = |source: &[u8]| tokens(source, &mut list.borrow_mut())[3];
+    let count = |source: &[u8]| {
+        let count = made(source);
+        list.borrow_mut().resize(count as usize, ZERO);
+        count
+    };
+    time(arguments, count, |source| {
+        made(source);
+    })
+}
+
+/// Into a table of exactly the rows that there are.
+fn time_trees(arguments: &[String]) -> std::io::Result<()> {
+    let table = std::cell::RefCell::new(Vec::new());
+    let made = |source: &[u8]| read(lekhyundo_tree, source, &mut table.borrow_mut())[3];
+    let count = |source: &[u8]| {
+        let count = made(source);
+        table.borrow_mut().resize(count as usize * 6, 0);
+        count
+    };
+    time(arguments, count, |source| {
+        made(source);
+    })
+}
+
 fn main() -> std::io::Result<()> {
     let arguments: Vec<String> = std::env::args().skip(1).collect();
-    if arguments.first().is_some_and(|word| word == "time") {
-        // A list of exactly the tokens that there are, from the second time on.
-        let mut list = Vec::new();
-        return time(&arguments[1..], |source| {
-            let [_, _, _, count] = tokens(source, &mut list);
-            list.resize(count as usize, ZERO);
-            count
-        });
+    match arguments.first().map(String::as_str) {
+        Some("tokens") => time_tokens(&arguments[1..]),
+        Some("trees") => time_trees(&arguments[1..]),
+        _ => serve(|case, out| match case.entry {
+            b'a' | b'b' => rows(case, out),
+            b'c' => token_list(case, out),
+            _ => decode(case, out),
+        }),
     }
-    serve(|case, out| match case.entry {
-        b'a' | b'b' => rows(case, out),
-        b'c' => token_list(case, out),
-        _ => decode(case, out),
-    })
 }

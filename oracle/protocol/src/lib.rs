@@ -111,17 +111,19 @@ pub fn serve(mut answer: impl FnMut(&Case<'_>, &mut String)) -> io::Result<()> {
     }
 }
 
-/// `time REPEATS FILE ..`: for each file its length, the count that a function gives for it, and the shortest of so
-/// many times that the function took, in nanoseconds.
-pub fn time(arguments: &[String], mut count: impl FnMut(&[u8]) -> u64) -> io::Result<()> {
+/// `REPEATS FILE ..`: for each file its length, the count that a function gives for it, and the shortest of so many
+/// times that another took to read it, in nanoseconds.
+pub fn time(
+    arguments: &[String], mut count: impl FnMut(&[u8]) -> u64, mut read: impl FnMut(&[u8]),
+) -> io::Result<()> {
     let repeats: u32 = arguments.first().and_then(|text| text.parse().ok()).unwrap_or(1);
     for file in arguments.iter().skip(1) {
         let source = std::fs::read(file)?;
+        let counted = count(&source);
         let mut best = std::time::Duration::MAX;
-        let mut counted = 0;
         for _ in 0..repeats.max(1) {
             let begun = std::time::Instant::now();
-            counted = count(std::hint::black_box(&source));
+            read(std::hint::black_box(&source));
             best = best.min(begun.elapsed());
         }
         println!("{} {counted} {}", source.len(), best.as_nanos());
