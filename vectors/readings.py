@@ -4,6 +4,7 @@ short ones among recorded cases."""
 import itertools, sys
 
 LONGEST, ROOM, SHORT, KEPT = 65535, 10000, 70, 1500
+DEPTHS = (31, 32, 33, 34)
 PRINTER = b'const A: u8 = 1;'
 
 pairs = [b'AS4294967295', b'AS4294967296', b'18446744073709551615u64', b'300u8', b'1.2.3.', b'::1', b'::ffff:1.2.3.4', b'"a"', b'"a" ', b'1+2*3',
@@ -48,14 +49,14 @@ around = {
     'bodies': lambda n, x: b'if a{' * n + x + b'}' * n,
     'arms': lambda n, x: b'match a{b=>' * n + x + b'}' * n,
     'guards': lambda n, x: b'match a{b if ' * n + x + b'=>c}' * n}
-limits = [f(n, x) for f in around.values() for n in (31, 32, 33, 34) for x in (b'a', b'', b'0x')]
+limits = [f(n, x) for f in around.values() for n in DEPTHS for x in (b'a', b'', b'0x')]
 together = ('parentheses', 'blocks', 'signs', 'returns', 'ifs', 'fors', 'chain')
-limits += [around[f](n, around[g](m, b'a')) for f, g in itertools.permutations(together, 2) for n in (31, 32, 33) for m in (31, 32, 33)]
+limits += [around[f](n, around[g](m, b'a')) for f, g in itertools.permutations(together, 2) for n in DEPTHS for m in DEPTHS]
 limits += [around['chain'](32, around['ifs'](32, around['parentheses'](n, around['signs'](32, b'a')))) for n in (30, 31, 32)]
-trees = [b'import ' + b'a.{' * n + b'a' + b'}' * n + b';' for n in (31, 32, 33, 34)]
-trees += [b'const A: ' + b'a[' * n + b']' * n + b' = 1;' for n in (31, 32, 33, 34)]
-trees += [b'const A: ' + b'{a:' * n + b'!' + b'}' * n + b' = 1;' for n in (31, 32, 33, 34)]
-trees += [b'fn f() ' + around['blocks'](n, b'') for n in (31, 32, 33, 34)]
+trees = [b'import ' + b'a.{' * n + b'a' + b'}' * n + b';' for n in DEPTHS]
+trees += [b'const A: ' + b'a[' * n + b']' * n + b' = 1;' for n in DEPTHS]
+trees += [b'const A: ' + b'{a:' * n + b'!' + b'}' * n + b' = 1;' for n in DEPTHS]
+trees += [b'fn f() ' + around['blocks'](n, b'') for n in DEPTHS]
 
 
 def filled(before, fill, after, length=LONGEST):

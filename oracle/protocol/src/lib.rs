@@ -114,7 +114,9 @@ pub fn serve(mut answer: impl FnMut(&Case<'_>, &mut String)) -> io::Result<()> {
 /// `REPEATS FILE ..`: for each file its length, the count that a function gives for it, and the shortest of so many
 /// times that another took to read it, in nanoseconds.
 pub fn time(
-    arguments: &[String], mut count: impl FnMut(&[u8]) -> u64, mut read: impl FnMut(&[u8]),
+    arguments: &[String],
+    mut count: impl FnMut(&[u8]) -> u64,
+    mut read: impl FnMut(&[u8]),
 ) -> io::Result<()> {
     let repeats: u32 = arguments.first().and_then(|text| text.parse().ok()).unwrap_or(1);
     for file in arguments.iter().skip(1) {

@@ -13,7 +13,14 @@ type Entry = unsafe extern "C" fn(*const u8, usize, *mut u64, usize, *mut u64, u
 
 unsafe extern "C" {
     fn lekhyundo_tree(s: *const u8, n: usize, table: *mut u64, size: usize, answer: *mut u64, four: usize);
-    fn lekhyundo_expression(s: *const u8, n: usize, table: *mut u64, size: usize, answer: *mut u64, four: usize);
+    fn lekhyundo_expression(
+        s: *const u8,
+        n: usize,
+        table: *mut u64,
+        size: usize,
+        answer: *mut u64,
+        four: usize,
+    );
 }
 
 /// What is read, and where the answer goes.
@@ -96,7 +103,18 @@ fn main() {
     let prefixes = [String::new(), signs.clone(), words.clone(), format!("{words}1*{signs}")];
     let before = measure.dearest("a parenthesis behind", ["", "("], &prefixes);
 
-    let mut brackets = owned(&["(", "a(", "{", "{let a=", "{a:", "a{a:", "match 1{a=>", "match 1{a if ", "if 1{", "for a in 1{let a="]);
+    let mut brackets = owned(&[
+        "(",
+        "a(",
+        "{",
+        "{let a=",
+        "{a:",
+        "a{a:",
+        "match 1{a=>",
+        "match 1{a if ",
+        "if 1{",
+        "for a in 1{let a=",
+    ]);
     brackets.extend(["", "let a="].iter().flat_map(|first| {
         [format!("{}else if 1{{{first}", chain(LIMIT - 1)), format!("{}else{{{first}", chain(LIMIT))]
     }));
@@ -107,7 +125,18 @@ fn main() {
 
     // A chain needs a head and a bracket to spare at each link, so the last head is a plain one.
     let outside = format!("{before}{head}").repeat(LIMIT - 1) + &format!("{before}{bracket}").repeat(LIMIT);
-    let leaves = ["1", "a", "1.5f64", "0x1", "AS1", "1.2.3.4", "1:2:3:4:5:6:7:8", "\"\\u{1f600}\" ", "'\\u{1f600}' ", "a.b?"];
+    let leaves = [
+        "1",
+        "a",
+        "1.5f64",
+        "0x1",
+        "AS1",
+        "1.2.3.4",
+        "1:2:3:4:5:6:7:8",
+        "\"\\u{1f600}\" ",
+        "'\\u{1f600}' ",
+        "a.b?",
+    ];
     let sources = leaves.map(|leaf| format!("const A:a={outside}{before}{plain}{before}{leaf}"));
     let sizes = sources.map(|source| (measure.taken(lekhyundo_tree, &source), source));
     let (bytes, source) = sizes.into_iter().max().expect("some leaf");
