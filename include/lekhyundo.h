@@ -2,7 +2,7 @@
  *
  * A source, a table or an answer is lent as a pointer and the number of its elements; the pointer may be anything but must
  * not be null or unaligned, also for 0 elements, and nothing is kept of it. No function allocates, fails or asks anything of the bytes.
- * What each says is proved, but for (a) and (b): those are proved to be safe and to end, and their answers are only run against the Rust.
+ * What each says is proved.
  *
  * (a) and (b) call themselves as deep as a source nests: a few thousand bytes of stack for most, 5 MiB for one that nests at all limits
  * at once (docs/ARCHITECTURE.md, "Stack"). A thread that reads what strangers wrote needs 6 MiB.

@@ -1,10 +1,10 @@
--- What the lexer says at a place: a token has a byte at least, ends within the source, and its word is below 100; else it
+-- What the lexer says at a place: a token has a byte at least, ends within the source, and its word is above 0 and below 99; else it
 -- is the end, or a refusal 4 or 5.
 use mathlib.Core.Path.{_≡_, refl, sym, ap, subst, _∙_}
 use mathlib.Core.List.{List, [], _∷_}
 use mathlib.Core.Bool.{Bool, true, false, not, _&&_, _||_}
 use mathlib.Core.Logic.{_⊎_, inl, inr}
-use Prim.Native.Nat.{ℕ, _+_, _-_, _≤_, _<_}
+use Prim.Native.Nat.{ℕ, zero, suc, _+_, _-_, _≤_, _<_}
 use lib.Dec.{T, eqb, ltb, ltb→lt}
 use lib.ListN.{length}
 use lib.Seq.{slice}
@@ -84,37 +84,67 @@ no-two : (a : ℕ) → twoSign a 256 ≡ 0
 unfolding twoSign twoSigns
 no-two a = no-word a twoSigns tt
 
--- every word is below 100
+-- every word is below 99
 abbrev smalls : List Entry → Bool
 smalls [] = true
-smalls (x ∷ xs) = ltb (x .word) 100 && smalls xs
+smalls (x ∷ xs) = ltb (x .word) 99 && smalls xs
 
-word-small : (xs : List Entry) (t : List ℕ) (d : ℕ) → T (smalls xs) → d < 100 → wordIn xs t d < 100
+word-small : (xs : List Entry) (t : List ℕ) (d : ℕ) → T (smalls xs) → d < 99 → wordIn xs t d < 99
 unfolding wordIn
 word-small [] t d h k = k
-word-small (x ∷ xs) t d h k = go (same t (x .text)) (word-small xs t d (and-r (ltb (x .word) 100) (smalls xs) h) k)
+word-small (x ∷ xs) t d h k = go (same t (x .text)) (word-small xs t d (and-r (ltb (x .word) 99) (smalls xs) h) k)
   where
-    go : (b : Bool) → wordIn xs t d < 100 → pick b (x .word) (wordIn xs t d) < 100
-    go true l = ltb→lt (x .word) 100 (and-l (ltb (x .word) 100) (smalls xs) h)
+    go : (b : Bool) → wordIn xs t d < 99 → pick b (x .word) (wordIn xs t d) < 99
+    go true l = ltb→lt (x .word) 99 (and-l (ltb (x .word) 99) (smalls xs) h)
     go false l = l
 
-two-small : (a b : ℕ) → twoSign a b < 100
+two-small : (a b : ℕ) → twoSign a b < 99
 unfolding twoSign twoSigns
 two-small a b = word-small twoSigns (a ∷ b ∷ []) 0 tt (omega arith)
 
-one-small : (b : ℕ) → oneSign b < 100
+one-small : (b : ℕ) → oneSign b < 99
 unfolding oneSign oneSigns
 one-small b = word-small oneSigns (b ∷ []) 0 tt (omega arith)
 
-name-small : (t : List ℕ) → nameWord t < 100
+name-small : (t : List ℕ) → nameWord t < 99
 unfolding nameWord keywords
 name-small t = go (same t (bytes "_"))
   where
-    go : (b : Bool) → pick b 14 (wordIn keywords t 13) < 100
+    go : (b : Bool) → pick b 14 (wordIn keywords t 13) < 99
     go true = omega arith
     go false = word-small keywords t 13 tt (omega arith)
 
-eight : (b : Bool) → pick b 8 7 < 100
+-- and above 0
+abbrev somes : List Entry → Bool
+somes [] = true
+somes (x ∷ xs) = ltb 0 (x .word) && somes xs
+
+word-some : (xs : List Entry) (t : List ℕ) (d : ℕ) → T (somes xs) → 0 < d → 0 < wordIn xs t d
+unfolding wordIn
+word-some [] t d h k = k
+word-some (x ∷ xs) t d h k = go (same t (x .text)) (word-some xs t d (and-r (ltb 0 (x .word)) (somes xs) h) k)
+  where
+    go : (b : Bool) → 0 < wordIn xs t d → 0 < pick b (x .word) (wordIn xs t d)
+    go true l = ltb→lt 0 (x .word) (and-l (ltb 0 (x .word)) (somes xs) h)
+    go false l = l
+
+name-some : (t : List ℕ) → 0 < nameWord t
+unfolding nameWord keywords
+name-some t = go (same t (bytes "_"))
+  where
+    go : (b : Bool) → 0 < pick b 14 (wordIn keywords t 13)
+    go true = omega arith
+    go false = word-some keywords t 13 tt (omega arith)
+
+some-word : (w : ℕ) → not (eqb w 0) ≡ true → 0 < w
+some-word zero e = absurd (true-T e)
+some-word (suc w) e = omega arith
+
+seven : (b : Bool) → 0 < pick b 8 7
+seven true = omega arith
+seven false = omega arith
+
+eight : (b : Bool) → pick b 8 7 < 99
 eight true = omega arith
 eight false = omega arith
 
@@ -125,17 +155,17 @@ module _ (s : List ℕ) where
 
   -- how far a rule reaches from a place
   data Goes (at : ℕ) : Fit → Type 0 where
-    goes-to : {e w : ℕ} → at < e → e ≤ length s → w < 100 → Goes at (To e w)
+    goes-to : {e w : ℕ} → at < e → e ≤ length s → 0 < w → w < 99 → Goes at (To e w)
     goes-no : Goes at No
 
-  goes-when : {at e : ℕ} (b : Bool) (w : ℕ) → w < 100 → (b ≡ true → (at < e) × (e ≤ length s)) → Goes at (whenFit b e w)
+  goes-when : {at e : ℕ} (b : Bool) (w : ℕ) → w < 99 → (b ≡ true → (at < e) × (e ≤ length s) × (0 < w)) → Goes at (whenFit b e w)
   unfolding whenFit
-  goes-when true w l h = let k = h refl in goes-to (k .0) (k .1) l
+  goes-when true w l h = let k = h refl in goes-to (k .0) (k .1) (k .2) l
   goes-when false w l h = goes-no
 
   goes-then : {at a : ℕ} {f : Fit} (g : ℕ → Fit) → at ≤ a → Goes a f → ((e : ℕ) → at < e → e ≤ length s → Goes at (g e)) → Goes at (thenFit f g)
   unfolding thenFit
-  goes-then g h (goes-to {e = e} l m w) k = k e (omega arith) m
+  goes-then g h (goes-to {e = e} l m p w) k = k e (omega arith) m
   goes-then g h goes-no k = goes-no
 
   goes-period : (at : ℕ) → Goes at (periodAt s at)
@@ -145,7 +175,7 @@ module _ (s : List ℕ) where
       goes-when (isDigit (byteAt s at) && eqb (byteAt s e) 46) 2 (omega arith) λ q.
       let h = byte-inside e 46 refl (right-true (isDigit (byteAt s at)) (eqb (byteAt s e) 46) q) in
       let k = past-ge (isClass Digit) s at in
-      (omega arith, omega arith)
+      (omega arith, omega arith, omega arith)
 
   goes-ipv4 : (at : ℕ) → Goes at (ipv4At s at)
   unfolding ipv4At
@@ -154,7 +184,7 @@ module _ (s : List ℕ) where
       goes-then _ (omega arith) (goes-period a) λ b h′ m′.
       goes-then _ (omega arith) (goes-period b) λ c h″ m″.
       let k = past-ge (isClass Digit) s c in
-      goes-to (omega arith) (past-le (isClass Digit) s c m″) (omega arith)
+      goes-to (omega arith) (past-le (isClass Digit) s c m″) (omega arith) (omega arith)
 
   module _ (at : ℕ) (in-at : at < length s) where
     goes-ipv6 : Goes at (ipv6At s at)
@@ -167,13 +197,13 @@ module _ (s : List ℕ) where
         let k = past-ge (isClass HexDigit) s at in
         let l = past-ge (isClass HexDigit) s (a + 1) in
         let m = past-ge (isClass HexColon) s (b + 1) in
-        (omega arith, past-le (isClass HexColon) s (b + 1) (omega arith))
+        (omega arith, past-le (isClass HexColon) s (b + 1) (omega arith), omega arith)
 
     goes-two : Goes at (twoAt s at)
     unfolding twoAt signFit
     goes-two =
         let w : ℕ = twoSign (byteAt s at) (byteAt s (at + 1)) in
-        goes-when (not (eqb w 0)) w (two-small (byteAt s at) (byteAt s (at + 1))) λ e. (omega arith, more (decLe (length s) (at + 1)) e)
+        goes-when (not (eqb w 0)) w (two-small (byteAt s at) (byteAt s (at + 1))) λ e. (omega arith, more (decLe (length s) (at + 1)) e, some-word w e)
       where
         more : Dec (length s ≤ at + 1) → not (eqb (twoSign (byteAt s at) (byteAt s (at + 1))) 0) ≡ true → at + 2 ≤ length s
         more (yes h) e =
@@ -184,7 +214,7 @@ module _ (s : List ℕ) where
 
     goes-one : Goes at (oneAt s at)
     unfolding oneAt signFit
-    goes-one = let w : ℕ = oneSign (byteAt s at) in goes-when (not (eqb w 0)) w (one-small (byteAt s at)) λ e. (omega arith, omega arith)
+    goes-one = let w : ℕ = oneSign (byteAt s at) in goes-when (not (eqb w 0)) w (one-small (byteAt s at)) λ e. (omega arith, omega arith, some-word w e)
 
     goes-as : Goes at (asAt s at)
     unfolding asAt
@@ -192,7 +222,7 @@ module _ (s : List ℕ) where
         goes-when (pairAt s at 65 83 && isDigit (byteAt s (at + 2))) 5 (omega arith) λ e.
         let h = within isDigit refl s (at + 2) (right-true (pairAt s at 65 83) (isDigit (byteAt s (at + 2))) e) in
         let k = past-ge (isClass Digit) s (at + 2) in
-        (omega arith, past-le (isClass Digit) s (at + 2) (omega arith))
+        (omega arith, past-le (isClass Digit) s (at + 2) (omega arith), omega arith)
 
     goes-hex : Goes at (hexAt s at)
     unfolding hexAt pairAt
@@ -200,7 +230,7 @@ module _ (s : List ℕ) where
         goes-when (pairAt s at 48 120) 6 (omega arith) λ e.
         let h = byte-inside (at + 1) 120 refl (right-true (eqb (byteAt s at) 48) (eqb (byteAt s (at + 1)) 120) e) in
         let k = past-ge (isClass HexDigit) s (at + 2) in
-        (omega arith, past-le (isClass HexDigit) s (at + 2) (omega arith))
+        (omega arith, past-le (isClass HexDigit) s (at + 2) (omega arith), omega arith)
 
     goes-number : Goes at (numberAt s at)
     unfolding numberAt isClass fractionAt
@@ -213,7 +243,7 @@ module _ (s : List ℕ) where
         let l = past-le (isClass Figure) s at (omega arith) in
         let k = ends fraction refl in
         let m = past-ge (isClass NamePart) s e in
-        (omega arith, past-le (isClass NamePart) s e (k .1))
+        (omega arith, past-le (isClass NamePart) s e (k .1), seven fraction)
       where
         whole′ : ℕ
         whole′ = pastRun (isClass Figure) s at
@@ -225,21 +255,21 @@ module _ (s : List ℕ) where
             (omega arith, past-le (isClass Figure) s (whole′ + 1) (omega arith))
         ends false q = (omega arith, past-le (isClass Figure) s at (omega arith))
 
-    goes-quote : (q w : ℕ) → w < 100 → Goes at (quoteAt q w s at)
+    goes-quote : (q w : ℕ) → 0 < w → w < 99 → Goes at (quoteAt q w s at)
     unfolding quoteAt
-    goes-quote q w l =
+    goes-quote q w p l =
         let close : ℕ = pastSpan (goesOn q) escapes false s (at + 1) in
         goes-when (eqb (byteAt s at) q && ltb (close + 1) (length s)) w l λ e.
         let h = ltb→lt (close + 1) (length s) (true-T (right-true (eqb (byteAt s at) q) (ltb (close + 1) (length s)) e)) in
         let k = span-ge (goesOn q) escapes false s (at + 1) in
-        (omega arith, omega arith)
+        (omega arith, omega arith, p)
 
     goes-name : Goes at (nameAt s at)
     unfolding nameAt isClass
     goes-name =
         let e : ℕ = pastRun (isClass NamePart) s at in
         goes-when (isNameStart (byteAt s at)) (nameWord (slice at e s)) (name-small (slice at e s)) λ q.
-        (past-gt (isClass NamePart) (outside NamePart) s at (part (byteAt s at) q), past-le (isClass NamePart) s at (omega arith))
+        (past-gt (isClass NamePart) (outside NamePart) s at (part (byteAt s at) q), past-le (isClass NamePart) s at (omega arith), name-some (slice at e s))
       where
         part : (b : ℕ) → isNameStart b ≡ true → isClass NamePart b ≡ true
         part b q = elim (or-true (isLetter b) (eqb b 95) q) [
@@ -249,13 +279,13 @@ module _ (s : List ℕ) where
 
   -- a step from a place: a token, the end, or a refusal 4 or 5
   pub data Steps (at : ℕ) : Step → Type 0 where
-    steps-token : {t : Token} {w : ℕ} {next : Cursor} → at < next .at → next .at ≤ length s → w < 100 → Steps at (Taken t w next)
+    steps-token : {t : Token} {w : ℕ} {next : Cursor} → at < next .at → next .at ≤ length s → 0 < w → w < 99 → Steps at (Taken t w next)
     steps-over : Steps at (Refused (record { number = 11; start = length s; end = length s }))
     steps-wrong : {r : Refusal} → (r .number ≡ 4) ⊎ (r .number ≡ 5) → Steps at (Refused r)
 
   steps-or : {at : ℕ} {f : Fit} {d : Step} → Goes at f → Steps at d → Steps at (orElse at f d)
   unfolding orElse taken
-  steps-or (goes-to h k w) n = steps-token h k w
+  steps-or (goes-to h k p w) n = steps-token h k p w
   steps-or goes-no n = n
 
   steps-pick : {at : ℕ} (b : Bool) {x d : Step} → Steps at x → Steps at d → Steps at (pick b x d)
@@ -273,13 +303,13 @@ module _ (s : List ℕ) where
       (steps-or (goes-hex at h)
       (steps-or (goes-number at h)
       (steps-pick (pairAt s at 102 34) (steps-wrong (inr refl))
-      (steps-or (goes-quote at h 34 9 (omega arith))
-      (steps-or (goes-quote at h 39 10 (omega arith))
+      (steps-or (goes-quote at h 34 9 (omega arith) (omega arith))
+      (steps-or (goes-quote at h 39 10 (omega arith) (omega arith))
       (steps-or (goes-name at h)
       (steps-wrong (inl refl))))))))))))
 
   steps-from : {at a : ℕ} {k : Step} → at ≤ a → Steps a k → Steps at k
-  steps-from h (steps-token {next = next} l m w) = steps-token {next = next} (omega arith) m w
+  steps-from h (steps-token {next = next} l m p w) = steps-token {next = next} (omega arith) m p w
   steps-from h steps-over = steps-over
   steps-from h (steps-wrong c) = steps-wrong c
 
@@ -303,7 +333,7 @@ module _ (s : List ℕ) where
       after false r q = let z : _≡_ {A = ℕ} 0 1 = cc in absurd (omega arith)
 
       go : (k : Step) → Steps i k → lookOf s k ≡ found x j → ahead j < ahead i
-      go (Taken t w next) (steps-token h m v) q = let z : next .at ≡ j = cc in omega arith
+      go (Taken t w next) (steps-token h m p v) q = let z : next .at ≡ j = cc in omega arith
       go (Refused r) h q = after (eqb (r .number) 11) r q
 
   -- for the choice of an alternative: every word that stands somewhere is below 100
@@ -315,5 +345,5 @@ module _ (s : List ℕ) where
       after false r = omega arith
 
       go : (k : Step) → Steps i k → word-of (source s) l (lookOf s k) < 100
-      go (Taken t w next) (steps-token h m v) = v
+      go (Taken t w next) (steps-token h m p v) = omega arith
       go (Refused r) h = after (eqb (r .number) 11) r

@@ -6,3 +6,4 @@ pub mod Bytes
 pub mod Computed
 pub mod Opened
 pub mod Worked
+pub mod Demands

@@ -1,5 +1,6 @@
 pub mod Source
 pub mod Entries
+pub mod Demands
 pub mod Compute
 pub mod Cases
 pub mod Decided

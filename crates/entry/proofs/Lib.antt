@@ -1,2 +1,3 @@
 mod Fine
 mod Names
+mod Stored

@@ -1,11 +1,29 @@
 -- What the entry points answer.
-use Prim.Native.Nat.{ℕ}
+use Prim.Native.Nat.{ℕ, _*_}
 use mathlib.Core.List.{List, []}
-use mathlib.Core.Bool.{_&&_}
 use lib.ListN.{length}
 use lib.Dec.{eqb, leb}
 use lib.Seq.{slice}
 use Rattle.chars.specs.Chars.{pick}
+use Rattle.tokens.specs.declared.Answer.{Answer}
+use Rattle.tokens.specs.Tokens.{refusal, counted}
+use Rattle.rows.specs.Rows.{zeroed}
+use Rattle.parser.specs.declared.Read.{Read}
+use Rattle.parser.specs.declared.Read.the-variants.{Done, Refused}
+use Rattle.answers.specs.Entries.{room}
+
+-- "zeros fill the rest" behind so many rows, where there is room for them; else zeros throughout
+abbrev pub keptRows : List ℕ → ℕ → List ℕ
+keptRows t n = zeroed t (pick (leb n (room (length t))) (n * 6) 0)
+
+-- the answer to a source of so many bytes that was read so, and what is left in a table of so many numbers
+abbrev pub answered : ℕ → ℕ → Read → Answer
+answered len size (Done m h) = counted len (h .rows) (room size)
+answered len size (Refused r) = refusal r
+
+abbrev pub leftBy : List ℕ → Read → List ℕ
+leftBy t (Done m h) = keptRows t (h .rows)
+leftBy t (Refused r) = zeroed t 0
 
 -- "(d) gives the part of the source that a row of kind 1 spans, and the empty part at the front for any other row or a
 -- span that doesn't fit."

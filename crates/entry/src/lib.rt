@@ -1,9 +1,12 @@
 // Entry points (a), (b) and (d).
 ghost use mathlib.Core.Path.{_≡_};
-ghost use Rattle.tokens.specs.Tokens.{refusal};
+ghost use mathlib.Core.Bool.{true, false};
+ghost use lib.ListN.{length as len};
+ghost use Rattle.tokens.specs.Tokens.{refusal, counted as countedOf};
 ghost use Rattle.rows.specs.Rows.{zeroed};
-ghost use Rattle.entry.specs.Entries.{nameText};
-use reader::Read;
+ghost use Rattle.answers.specs.Entries.{room, Permitted};
+ghost use Rattle.entry.specs.Entries.{keptRows, answered, leftBy, nameText};
+use parser::Read;
 use tokens::Answer;
 use tokens::Refusal;
 use tokens::Whole;
@@ -22,7 +25,9 @@ fn refused(table: &mut [u64], r: Refusal) -> Answer
 }
 
 // Zeros behind the rows, where there was room for them.
-fn counted(table: &mut [u64], length: usize, count: usize) -> Answer {
+fn counted(table: &mut [u64], length: usize, count: usize) -> Answer
+    ensures { λ a. ⌜ (a ≡ countedOf length count (room (len (now (table .entry))))) × (now (table .exit) ≡ keptRows (now (table .entry)) count) ⌝ }
+{
     if count <= table.len() / 6 {
         rows::clear(table, count * 6);
         return Answer {
@@ -41,15 +46,19 @@ fn counted(table: &mut [u64], length: usize, count: usize) -> Answer {
     }
 }
 
-fn answer(table: &mut [u64], length: usize, r: Read) -> Answer {
+fn answer(table: &mut [u64], length: usize, r: Read) -> Answer
+    ensures { λ a. ⌜ (a ≡ answered length (len (now (table .entry))) r) × (now (table .exit) ≡ leftBy (now (table .entry)) r) ⌝ }
+{
     match r {
-        Read::Done(node, _) => counted(table, length, node.rows),
+        Read::Done(_, here) => counted(table, length, here.rows),
         Read::Refused(why) => refused(table, why),
     }
 }
 
 // (a): a source to its tree.
-pub fn tree(s: &[u8], table: &mut [u64]) -> Answer {
+pub fn tree(s: &[u8], table: &mut [u64]) -> Answer
+    ensures { λ a. ⌜ Permitted true true (now (s .entry)) (len (now (table .entry))) a (now (table .exit)) ⌝ }
+{
     match tokens::check_source(s) {
         Whole::Refused(why) => refused(table, why),
         Whole::Fine => {
@@ -60,7 +69,9 @@ pub fn tree(s: &[u8], table: &mut [u64]) -> Answer {
 }
 
 // (b): a source to one expression.
-pub fn expression(s: &[u8], table: &mut [u64]) -> Answer {
+pub fn expression(s: &[u8], table: &mut [u64]) -> Answer
+    ensures { λ a. ⌜ Permitted true false (now (s .entry)) (len (now (table .entry))) a (now (table .exit)) ⌝ }
+{
     match tokens::check_source(s) {
         Whole::Refused(why) => refused(table, why),
         Whole::Fine => {

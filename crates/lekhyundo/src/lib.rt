@@ -1,5 +1,6 @@
 // The functions that C and Rust link: each answers in a lent run of numbers, as far as that reaches.
 ghost use mathlib.Core.Path.{_≡_};
+ghost use mathlib.Core.Bool.{true, false};
 ghost use lib.ListN.{set, length};
 ghost use lib.Seq.{sets, slice};
 ghost use Rattle.tokens.specs.Tokens.{stepAt, answerOf};
@@ -8,6 +9,7 @@ ghost use Rattle.strings.specs.Strings.{answerOf as decodeAnswer, contentOf};
 ghost use Rattle.entry.specs.Entries.{nameText};
 ghost use Rattle.values.specs.Literals.{literalOf};
 ghost use Rattle.lekhyundo.specs.Numbers.{answerNumbers, stepNumbers, decodeNumbers, literalNumbers};
+ghost use Rattle.lekhyundo.specs.Entered.{Entered};
 use tokens::Answer;
 use tokens::Cursor;
 use tokens::Step;
@@ -112,14 +114,18 @@ pub extern "C" fn lekhyundo_literal(s: &[u8], code: u64, start: usize, end: usiz
 
 // (a): a source to its tree, rows of six numbers in the lent table; number, start, end, count.
 #[no_mangle]
-pub extern "C" fn lekhyundo_tree(s: &[u8], table: &mut [u64], answer: &mut [u64]) {
+pub extern "C" fn lekhyundo_tree(s: &[u8], table: &mut [u64], answer: &mut [u64])
+    ensures { λ r. ⌜ Entered true (now (s .entry)) (length (now (table .entry))) (now (table .exit)) (now (answer .entry)) (now (answer .exit)) ⌝ }
+{
     let a = entry::tree(s, table);
     put_answer(answer, a);
 }
 
 // (b): a source to one expression, likewise.
 #[no_mangle]
-pub extern "C" fn lekhyundo_expression(s: &[u8], table: &mut [u64], answer: &mut [u64]) {
+pub extern "C" fn lekhyundo_expression(s: &[u8], table: &mut [u64], answer: &mut [u64])
+    ensures { λ r. ⌜ Entered false (now (s .entry)) (length (now (table .entry))) (now (table .exit)) (now (answer .entry)) (now (answer .exit)) ⌝ }
+{
     let a = entry::expression(s, table);
     put_answer(answer, a);
 }

@@ -1,14 +1,9 @@
 use mathlib.Core.Path.{sym, _∙_}
-use Rattle.entry.proofs.Fine.{fine-short}
+use mathlib.Core.Bool.{false}
+use Rattle.entry.proofs.Stored.{permits-early, permits-read}
 use borrow.Author.Needs.{needs}
 use Rattle.entry.proofs.expression.Statement.{statement}
 use Rattle.entry.proofs.expression.Tie as tie
-use Rattle.entry.proofs.expression.Reads as reads
-use Rattle.entry.proofs.expression.Lts as lts
-use Rattle.entry.proofs.answer.Reads as answer-reads
-use Rattle.entry.proofs.refused.Reads as refused-reads
-use Rattle.reader.proofs.expression.Reads as expression-reads
-use Rattle.tokens.proofs.check_source.Reads as check-source-reads
 
 check-source-requires : tie.Need-check-source-requires
 check-source-requires c κs = search needs
@@ -23,7 +18,7 @@ enum-told : tie.Need-enum-told
 enum-told c = search needs
 
 expression-requires : tie.Need-expression-requires
-expression-requires c κs = fine-short (c .before .before .before .before .before .before .args .s .now) (sym (c .before .before .before .check-source .ensures) ∙ c .before .enum-told .given .1)
+expression-requires c κs = search needs
 
 answer-requires : tie.Need-answer-requires
 answer-requires c κs = search needs
@@ -32,25 +27,13 @@ same-length : tie.Need-same-length
 same-length c = search needs
 
 returns : tie.Need-returns
-returns c = search needs
+returns c = permits-early false _ _ (sym (c .before .before .before .before .before .before .before .check-source .ensures) ∙ c .before .before .before .before .before .why .given .1) (c .before .before .refused .ensures)
 
 same-length-2 : tie.Need-same-length-2
 same-length-2 c = search needs
 
 returns-2 : tie.Need-returns-2
-returns-2 c = search needs
+returns-2 c = permits-read false _ _ (sym (c .before .before .before .before .before .before .before .before .before .before .check-source .ensures) ∙ c .before .before .before .before .before .before .before .before .enum-told .given .1) (c .before .before .before .before .before .before .expression .ensures) (c .before .before .answer .ensures)
 
 pub expression-spec : {M : Type 1} → statement M
-expression-spec =
-    tie.close
-    (tie.spec
-    check-source-requires
-    enum-known-why
-    refused-requires
-    enum-told
-    expression-requires
-    answer-requires
-    same-length
-    returns
-    same-length-2
-    returns-2)
+expression-spec = tie.close (tie.spec check-source-requires enum-known-why refused-requires enum-told expression-requires answer-requires same-length returns same-length-2 returns-2)

@@ -1,14 +1,9 @@
 use mathlib.Core.Path.{sym, _∙_}
-use Rattle.entry.proofs.Fine.{fine-short}
+use mathlib.Core.Bool.{true}
+use Rattle.entry.proofs.Stored.{permits-early, permits-read}
 use borrow.Author.Needs.{needs}
 use Rattle.entry.proofs.tree.Statement.{statement}
 use Rattle.entry.proofs.tree.Tie as tie
-use Rattle.entry.proofs.tree.Reads as reads
-use Rattle.entry.proofs.tree.Lts as lts
-use Rattle.entry.proofs.answer.Reads as answer-reads
-use Rattle.entry.proofs.refused.Reads as refused-reads
-use Rattle.reader.proofs.tree.Reads as tree-reads
-use Rattle.tokens.proofs.check_source.Reads as check-source-reads
 
 check-source-requires : tie.Need-check-source-requires
 check-source-requires c κs = search needs
@@ -23,7 +18,7 @@ enum-told : tie.Need-enum-told
 enum-told c = search needs
 
 tree-requires : tie.Need-tree-requires
-tree-requires c κs = fine-short (c .before .before .before .before .before .before .args .s .now) (sym (c .before .before .before .check-source .ensures) ∙ c .before .enum-told .given .1)
+tree-requires c κs = search needs
 
 answer-requires : tie.Need-answer-requires
 answer-requires c κs = search needs
@@ -32,25 +27,13 @@ same-length : tie.Need-same-length
 same-length c = search needs
 
 returns : tie.Need-returns
-returns c = search needs
+returns c = permits-early true _ _ (sym (c .before .before .before .before .before .before .before .check-source .ensures) ∙ c .before .before .before .before .before .why .given .1) (c .before .before .refused .ensures)
 
 same-length-2 : tie.Need-same-length-2
 same-length-2 c = search needs
 
 returns-2 : tie.Need-returns-2
-returns-2 c = search needs
+returns-2 c = permits-read true _ _ (sym (c .before .before .before .before .before .before .before .before .before .before .check-source .ensures) ∙ c .before .before .before .before .before .before .before .before .enum-told .given .1) (c .before .before .before .before .before .before .tree .ensures) (c .before .before .answer .ensures)
 
 pub tree-spec : {M : Type 1} → statement M
-tree-spec =
-    tie.close
-    (tie.spec
-    check-source-requires
-    enum-known-why
-    refused-requires
-    enum-told
-    tree-requires
-    answer-requires
-    same-length
-    returns
-    same-length-2
-    returns-2)
+tree-spec = tie.close (tie.spec check-source-requires enum-known-why refused-requires enum-told tree-requires answer-requires same-length returns same-length-2 returns-2)

@@ -1,37 +1,28 @@
-use Prim.Native.Nat.{ℕ, _<_, _≤_, _-_, _*_, _+_}
-use mathlib.Core.Path.{_≡_}
-use lib.ListN.{length}
+use Rattle.promises.proofs.Types.{any-read}
 use borrow.Author.Needs.{needs}
-use Rattle.reader.specs.Laws.{laws, looked, done}
 use Rattle.reader.proofs.any_pattern.Statement.{statement}
 use Rattle.reader.proofs.any_pattern.Tie as tie
 use Rattle.reader.proofs.any_pattern.Reads as reads
 use Rattle.reader.proofs.any_pattern.Lts as lts
-use Rattle.reader.proofs.finish.Reads as finish-reads
-use Rattle.reader.proofs.take.Reads as take-reads
+use Rattle.parser.proofs.finish.Reads as finish-reads
+use Rattle.parser.proofs.plain_row.Reads as plain-row-reads
+use Rattle.parser.proofs.take.Reads as take-reads
 
 take-requires : tie.Need-take-requires
-take-requires c κs = omega laws
+take-requires c κs = search needs
 
-enum-known-r : tie.Need-enum-known-r
-enum-known-r c = search needs
-
-enum-told : tie.Need-enum-told
-enum-told c = search needs
-
-returns : tie.Need-returns
-returns c = omega laws
+plain-row-requires : tie.Need-plain-row-requires
+plain-row-requires c κs = search needs
 
 finish-requires : tie.Need-finish-requires
-finish-requires c κs = omega (laws, done (c .before .before .r .given .1))
+finish-requires c κs = search needs
 
 same-length : tie.Need-same-length
-same-length c = omega (laws, done (c .before .before .before .before .before .r .given .1), c .before .before .before .before .before .before .before .before .before .before)
+same-length c = search needs
 
-returns-2 : tie.Need-returns-2
-returns-2 c = omega (laws, done (c .before .before .before .before .before .r .given .1), c .before .before .before .before .before .before .before .before .before .before)
+returns : tie.Need-returns
+returns c = any-read (c .before .before .before .before .before .before .before .before .pre .0) (c .before .before .before .before .before .before .before .before .pre .1) (c .before .before .before .before .before .take .ensures) (c .before .before .before .plain-row .ensures) (c .before .before .finish .ensures .0) (c .before .before .finish .ensures .1)
 
 pub any-pattern-spec : {M : Type 1} → statement M
 any-pattern-spec =
-    tie.close
-    (tie.spec take-requires enum-known-r enum-told returns finish-requires same-length returns-2)
+    tie.close (tie.spec take-requires plain-row-requires finish-requires same-length returns)

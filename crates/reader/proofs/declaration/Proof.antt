@@ -1,73 +1,59 @@
-use Prim.Native.Nat.{ℕ, _<_, _≤_, _-_, _*_, _+_}
-use mathlib.Core.Path.{_≡_}
-use lib.ListN.{length}
+use mathlib.Core.Logic.{inl, inr}
+use Rattle.promises.proofs.Declarations.{filter-word, no-declaration, declared-import, undeclared}
 use borrow.Author.Needs.{needs}
-use Rattle.reader.specs.Laws.{laws, looked, done}
 use Rattle.reader.proofs.declaration.Statement.{statement}
 use Rattle.reader.proofs.declaration.Tie as tie
-use Rattle.reader.proofs.declaration.Reads as reads
-use Rattle.reader.proofs.declaration.Lts as lts
-use Rattle.reader.proofs.Limits.none.Reads as none-reads
-use Rattle.reader.proofs.constant.Reads as constant-reads
-use Rattle.reader.proofs.function.Reads as function-reads
-use Rattle.reader.proofs.import.Reads as import-reads
-use Rattle.reader.proofs.test.Reads as test-reads
-use Rattle.reader.proofs.filter_map.Reads as filter-map-reads
-use Rattle.reader.proofs.unusable.Reads as unusable-reads
-
-none-requires : tie.Need-none-requires
-none-requires c κs = search needs
 
 constant-requires : tie.Need-constant-requires
-constant-requires c κs = omega laws
+constant-requires c κs = (c .before .before .before .before .pre, c .before .match .keys1)
 
 function-requires : tie.Need-function-requires
-function-requires c κs = omega laws
+function-requires c κs = (c .before .before .before .before .pre, c .before .match .keys2)
 
 import-requires : tie.Need-import-requires
-import-requires c κs = omega laws
+import-requires c κs = (c .before .before .before .before .pre, c .before .match .keys3)
 
 test-requires : tie.Need-test-requires
-test-requires c κs = omega laws
+test-requires c κs = (c .before .before .before .before .pre, c .before .match .keys4)
 
 filter-map-requires : tie.Need-filter-map-requires
-filter-map-requires c κs = omega laws
+filter-map-requires c κs = (c .before .before .before .before .before .before .pre, filter-word _ (c .before .before .if1 .left) (c .before .if2 .taken))
 
 unusable-requires : tie.Need-unusable-requires
 unusable-requires c κs = search needs
 
 same-length : tie.Need-same-length
-same-length c = omega laws
+same-length c = search needs
 
 returns : tie.Need-returns
-returns c = omega laws
+returns c = c .before .before .constant .ensures
 
 same-length-2 : tie.Need-same-length-2
-same-length-2 c = omega laws
+same-length-2 c = search needs
 
 returns-2 : tie.Need-returns-2
-returns-2 c = omega laws
+returns-2 c = c .before .before .function .ensures
 
 same-length-3 : tie.Need-same-length-3
-same-length-3 c = omega laws
+same-length-3 c = search needs
 
 returns-3 : tie.Need-returns-3
-returns-3 c = omega laws
+returns-3 c = declared-import _ _ _ _ (c .before .before .before .before .before .before .before .pre) (c .before .before .before .before .match .keys3) (c .before .before .import .ensures .0)
 
 same-length-4 : tie.Need-same-length-4
-same-length-4 c = omega laws
+same-length-4 c = search needs
 
 returns-4 : tie.Need-returns-4
-returns-4 c = omega laws
+returns-4 c = c .before .before .test .ensures
 
 same-length-5 : tie.Need-same-length-5
-same-length-5 c = omega (laws, c .before .before .before .before .before .before .before .before .before .before)
+same-length-5 c = search needs
 
 returns-5 : tie.Need-returns-5
-returns-5 c = omega (laws, c .before .before .before .before .before .before .before .before .before .before)
+returns-5 c = c .before .before .filter-map .ensures
 
 returns-6 : tie.Need-returns-6
-returns-6 c = omega laws
+returns-6 c = undeclared _ _ _ _ (c .before .before .before .before .before .pre) (no-declaration _ (c .before .before .match .rest .0 .0 .0 .1) (c .before .before .match .rest .0 .0 .1) (c .before .before .match .rest .0 .1) (c .before .before .match .rest .1) (elim (c .before .if1 .came) [ inl z ↦ inl (z .taken) | inr z ↦ inr (z .1 .left) ])) (c .unusable .ensures)
 
 pub declaration-spec : {M : Type 1} → statement M
-declaration-spec = tie.close (tie.spec none-requires constant-requires function-requires import-requires test-requires filter-map-requires unusable-requires same-length returns same-length-2 returns-2 same-length-3 returns-3 same-length-4 returns-4 same-length-5 returns-5 returns-6)
+declaration-spec = tie.close (tie.spec constant-requires function-requires import-requires test-requires filter-map-requires unusable-requires same-length returns same-length-2 returns-2 same-length-3 returns-3 same-length-4 returns-4 same-length-5 returns-5 returns-6)

@@ -1,20 +1,18 @@
-use Prim.Native.Nat.{ℕ, _<_, _≤_, _-_, _*_, _+_}
-use mathlib.Core.Path.{_≡_}
-use lib.ListN.{length}
+use mathlib.Core.List.{[], _∷_}
+use Rattle.parser.proofs.Standing.{past-word, is-word}
+use Rattle.promises.proofs.Imports.{limited, import-refused, import-unended, import-read}
 use borrow.Author.Needs.{needs}
-use Rattle.reader.specs.Laws.{laws, looked, done}
 use Rattle.reader.proofs.import.Statement.{statement}
 use Rattle.reader.proofs.import.Tie as tie
-use Rattle.reader.proofs.import.Reads as reads
-use Rattle.reader.proofs.import.Lts as lts
-use Rattle.reader.proofs.Limits.plain.Reads as plain-reads
-use Rattle.reader.proofs.expect.Reads as expect-reads
-use Rattle.reader.proofs.finish.Reads as finish-reads
-use Rattle.reader.proofs.import_path.Reads as import-path-reads
-use Rattle.reader.proofs.take.Reads as take-reads
 
 take-requires : tie.Need-take-requires
-take-requires c κs = omega laws
+take-requires c κs = search needs
+
+plain-requires : tie.Need-plain-requires
+plain-requires c κs = search needs
+
+imported-requires : tie.Need-imported-requires
+imported-requires c κs = past-word (70 ∷ []) (c .before .before .before .before .before .pre .0) tt (is-word (c .before .before .before .before .before .pre .1)) (c .before .before .take .ensures) .0
 
 enum-known-r : tie.Need-enum-known-r
 enum-known-r c = search needs
@@ -22,14 +20,14 @@ enum-known-r c = search needs
 enum-told : tie.Need-enum-told
 enum-told c = search needs
 
+same-length : tie.Need-same-length
+same-length c = search needs
+
 returns : tie.Need-returns
-returns c = omega laws
+returns c = import-refused _ (c .before .before .before .before .before .before .before .before .before .before .args .limits) _ _ (c .before .before .before .before .before .before .before .before .before .before .pre .0) (c .before .before .before .before .before .before .before .before .before .before .pre .1) (c .before .before .before .before .before .before .before .take .ensures) (limited (c .before .before .before .before .before .plain .ensures) (c .before .before .before .before .imported .ensures .0)) (c .enum-told .given .1)
 
-plain-requires : tie.Need-plain-requires
-plain-requires c κs = search needs
-
-import-path-requires : tie.Need-import-path-requires
-import-path-requires c κs = omega (laws, done (c .before .before .before .r .given .1))
+expect-requires : tie.Need-expect-requires
+expect-requires c κs = search needs
 
 enum-known-r-2 : tie.Need-enum-known-r-2
 enum-known-r-2 c = search needs
@@ -37,55 +35,17 @@ enum-known-r-2 c = search needs
 enum-told-2 : tie.Need-enum-told-2
 enum-told-2 c = search needs
 
-same-length : tie.Need-same-length
-same-length c = omega (laws, done (c .before .before .before .before .before .before .before .before .r .given .1), c .before .before .before .before .before .before .before .before .before .before)
+same-length-2 : tie.Need-same-length-2
+same-length-2 c = search needs
 
 returns-2 : tie.Need-returns-2
-returns-2 c = omega (laws, done (c .before .before .before .before .before .before .before .before .r .given .1), c .before .before .before .before .before .before .before .before .before .before)
-
-finish-requires : tie.Need-finish-requires
-finish-requires c κs = omega (laws, done (c .before .before .r2 .given .1), done (c .before .before .before .before .before .before .before .before .before .before .r .given .1), c .before .before .before .before .before .before .before .before .before .before)
-
-enum-known-r-3 : tie.Need-enum-known-r-3
-enum-known-r-3 c = search needs
-
-enum-told-3 : tie.Need-enum-told-3
-enum-told-3 c = search needs
-
-same-length-2 : tie.Need-same-length-2
-same-length-2 c = omega (laws, done (c .before .before .before .before .before .before .before .r2 .given .1), done (c .before .before .before .before .before .before .before .before .before .before .before .before .before .before .before .r .given .1), c .before .before .before .before .before .before .before .before .before .before, c .before .before .before .before .before .before .before .before .before .before .before .before .before .before .before .before .before .before .before .before)
-
-returns-3 : tie.Need-returns-3
-returns-3 c = omega (laws, done (c .before .before .before .before .before .before .before .r2 .given .1), done (c .before .before .before .before .before .before .before .before .before .before .before .before .before .before .before .r .given .1), c .before .before .before .before .before .before .before .before .before .before, c .before .before .before .before .before .before .before .before .before .before .before .before .before .before .before .before .before .before .before .before)
-
-expect-requires : tie.Need-expect-requires
-expect-requires c κs = omega (laws, done (c .before .r3 .given .1), done (c .before .before .before .before .before .before .before .before .r2 .given .1), done (c .before .before .before .before .before .before .before .before .before .before .before .before .before .before .before .before .r .given .1), c .before .before .before .before .before .before .before .before .before .before, c .before .before .before .before .before .before .before .before .before .before .before .before .before .before .before .before .before .before .before .before)
+returns-2 c = import-unended _ (c .before .before .before .before .before .before .before .before .before .before .before .before .before .before .args .limits) _ _ (c .before .before .before .before .before .before .before .before .before .before .before .before .before .before .pre .0) (c .before .before .before .before .before .before .before .before .before .before .before .before .before .before .pre .1) (c .before .before .before .before .before .before .before .before .before .before .before .take .ensures) (limited (c .before .before .before .before .before .before .before .before .before .plain .ensures) (c .before .before .before .before .before .before .before .before .imported .ensures .0)) (c .before .before .before .before .r .given .1) (c .before .before .expect .ensures) (c .enum-told2 .given .1)
 
 same-length-3 : tie.Need-same-length-3
-same-length-3 c = omega (laws, done (c .before .before .r3 .given .1), done (c .before .before .before .before .before .before .before .before .before .r2 .given .1), done (c .before .before .before .before .before .before .before .before .before .before .before .before .before .before .before .before .before .r .given .1), c .before .before .before .before .before .before .before .before .before .before, c .before .before .before .before .before .before .before .before .before .before .before .before .before .before .before .before .before .before .before .before)
+same-length-3 c = search needs
 
-returns-4 : tie.Need-returns-4
-returns-4 c = omega (laws, done (c .before .before .r3 .given .1), done (c .before .before .before .before .before .before .before .before .before .r2 .given .1), done (c .before .before .before .before .before .before .before .before .before .before .before .before .before .before .before .before .before .r .given .1), c .before .before .before .before .before .before .before .before .before .before, c .before .before .before .before .before .before .before .before .before .before .before .before .before .before .before .before .before .before .before .before)
+returns-3 : tie.Need-returns-3
+returns-3 c = import-read _ (c .before .before .before .before .before .before .before .before .before .before .before .before .before .before .before .args .limits) _ _ (c .before .before .before .before .before .before .before .before .before .before .before .before .before .before .before .pre .0) (c .before .before .before .before .before .before .before .before .before .before .before .before .before .before .before .pre .1) (c .before .before .before .before .before .before .before .before .before .before .before .before .take .ensures) (limited (c .before .before .before .before .before .before .before .before .before .before .plain .ensures) (c .before .before .before .before .before .before .before .before .before .imported .ensures .0)) (c .before .before .before .before .before .r .given .1) (c .before .before .before .expect .ensures) (c .before .before .before .before .before .before .before .before .before .imported .ensures .1) (c .before .r2 .given .1)
 
 pub import-spec : {M : Type 1} → statement M
-import-spec =
-    tie.close
-    (tie.spec
-    take-requires
-    enum-known-r
-    enum-told
-    returns
-    plain-requires
-    import-path-requires
-    enum-known-r-2
-    enum-told-2
-    same-length
-    returns-2
-    finish-requires
-    enum-known-r-3
-    enum-told-3
-    same-length-2
-    returns-3
-    expect-requires
-    same-length-3
-    returns-4)
+import-spec = tie.close (tie.spec take-requires plain-requires imported-requires enum-known-r enum-told same-length returns expect-requires enum-known-r-2 enum-told-2 same-length-2 returns-2 same-length-3 returns-3)

@@ -1,25 +1,31 @@
-use Prim.Native.Nat.{ℕ, _<_, _≤_, _-_, _*_, _+_}
-use mathlib.Core.Path.{_≡_}
-use lib.ListN.{length}
 use borrow.Author.Needs.{needs}
-use Rattle.reader.specs.Laws.{laws, looked, done}
+use native.Mathlib.Omega.{arith}
+use mathlib.Core.Path.{refl, _∙_}
+use lib.ListN.{length}
+use Prim.Native.Nat.{_+_, _-_}
+use Rattle.promises.proofs.Answered.{kept-either}
+use Rattle.words.proofs.Tests.{true-so, false-so}
+use Rattle.promises.proofs.Lists.{Loops, loop-begins, loop-more, loop-falls, loop-room, loop-refused, loop-ends, loop-closes, list-unopened, list-opened, opened-on, no-limits, names-list}
+use Rattle.parser.specs.Counted.{counts, opened}
+use Rattle.parser.specs.declared.Limits.{Limits}
 use Rattle.reader.proofs.names.Statement.{statement}
 use Rattle.reader.proofs.names.Tie as tie
 use Rattle.reader.proofs.names.Reads as reads
 use Rattle.reader.proofs.names.Lts as lts
-use Rattle.reader.proofs.close.Reads as close-reads
-use Rattle.reader.proofs.comma.Reads as comma-reads
+use Rattle.parser.proofs.close.Reads as close-reads
+use Rattle.parser.proofs.open.Reads as open-reads
+use Rattle.parser.proofs.take.Reads as take-reads
 use Rattle.reader.proofs.identifier.Reads as identifier-reads
-use Rattle.reader.proofs.open.Reads as open-reads
+use Rattle.words.proofs.is_name.Reads as is-name-reads
 
 abbrev Inv-loop : tie.InvT-loop
-Inv-loop s table₀ n opening rows₀ here₀ children₀ table rows here children = (here₀ .next ≤ here .next) × (here .next ≤ length s + 1) × (rows + 3 * here₀ .next ≤ rows₀ + 3 * here .next) × (length table ≡ length table₀) × (children ≤ here .next)
+Inv-loop s table₀ opening here₀ children₀ table here children = (l : Limits) → Loops names-list s l here₀ table₀ children₀ here table children
 
 abbrev μ-loop : tie.MeasureT-loop
-μ-loop s table₀ n opening rows₀ here₀ children₀ table rows here children = length s + 1 - here .next
+μ-loop s table₀ opening here₀ children₀ table here children = length s + 1 - here .next
 
 open-requires : tie.Need-open-requires Inv-loop μ-loop
-open-requires c κs = omega laws
+open-requires c κs = search needs
 
 enum-known-r : tie.Need-enum-known-r Inv-loop μ-loop
 enum-known-r c = search needs
@@ -28,13 +34,16 @@ enum-told : tie.Need-enum-told Inv-loop μ-loop
 enum-told c = search needs
 
 returns : tie.Need-returns Inv-loop μ-loop
-returns c = omega laws
+returns c = list-unopened names-list 42 43 (tt) (c .before .before .«open» .ensures) (c .enum-told .given .1)
 
 loop-holds : tie.Need-loop-holds Inv-loop μ-loop
-loop-holds c = omega (laws, done (c .before .r .given .1))
+loop-holds c = λ l. loop-begins names-list (opened-on 42 _ (tt) (c .before .before .before .before .before .before .pre) (c .before .before .before .«open» .ensures) (c .before .r .given .1) .0)
+
+is-name-requires : tie.Need-is-name-requires Inv-loop μ-loop
+is-name-requires c κs = search needs
 
 identifier-requires : tie.Need-identifier-requires Inv-loop μ-loop
-identifier-requires c κs = omega (laws, done (c .before .before .before .before .before .r .given .1), c .before .before .before .before .before .before .before .before .before .before)
+identifier-requires c κs = c .before .before .before .loop .inv no-limits .stands
 
 enum-known-r-2 : tie.Need-enum-known-r-2 Inv-loop μ-loop
 enum-known-r-2 c = search needs
@@ -43,43 +52,40 @@ enum-told-2 : tie.Need-enum-told-2 Inv-loop μ-loop
 enum-told-2 c = search needs
 
 same-length : tie.Need-same-length Inv-loop μ-loop
-same-length c = omega (laws, done (c .before .before .before .before .before .before .before .before .before .before .r .given .1), c .before .before .before .before .before .before .before .before .before .before)
+same-length c = kept-either (c .before .before .before .before .identifier .ensures .0 (counts no-limits)) ∙ (c .before .before .before .before .before .before .before .before .loop .inv no-limits) .kept
 
 returns-2 : tie.Need-returns-2 Inv-loop μ-loop
-returns-2 c = omega (laws, done (c .before .before .before .before .before .before .before .before .before .before .r .given .1), c .before .before .before .before .before .before .before .before .before .before)
-
-comma-requires : tie.Need-comma-requires Inv-loop μ-loop
-comma-requires c κs = omega (laws, done (c .before .r2 .given .1), done (c .before .before .before .before .before .before .before .before .before .before .before .r .given .1), c .before .before .before .before .before .before .before .before .before .before)
-
-enum-known-r-3 : tie.Need-enum-known-r-3 Inv-loop μ-loop
-enum-known-r-3 c = search needs
-
-enum-told-3 : tie.Need-enum-told-3 Inv-loop μ-loop
-enum-told-3 c = search needs
-
-same-length-2 : tie.Need-same-length-2 Inv-loop μ-loop
-same-length-2 c = omega (laws, done (c .before .before .before .before .r2 .given .1), done (c .before .before .before .before .before .before .before .before .before .before .before .before .before .before .r .given .1), c .before .before .before .before .before .before .before .before .before .before)
-
-returns-3 : tie.Need-returns-3 Inv-loop μ-loop
-returns-3 c = omega (laws, done (c .before .before .before .before .r2 .given .1), done (c .before .before .before .before .before .before .before .before .before .before .before .before .before .before .r .given .1), c .before .before .before .before .before .before .before .before .before .before)
+returns-2 c = list-opened names-list 42 43 (tt) (c .before .before .before .before .before .before .before .before .before .before .before .before .«open» .ensures) (c .before .before .before .before .before .before .before .before .before .before .r .given .1) refl (loop-refused names-list (c .before .before .before .before .before .before .before .before .loop .inv (opened (c .before .before .before .before .before .before .before .before .before .before .before .before .before .before .before .args .limits))) 43 _ (true-so (c .before .before .before .before .before .before .before .is-name .ensures) (c .before .before .before .before .before .before .if1 .taken)) (c .before .before .before .before .identifier .ensures .0 (counts (opened (c .before .before .before .before .before .before .before .before .before .before .before .before .before .before .before .args .limits)))) (c .enum-told2 .given .1))
 
 add-children : tie.Need-add-children Inv-loop μ-loop
-add-children c = omega (laws, done (c .before .r3 .given .1), done (c .before .before .before .before .before .r2 .given .1), done (c .before .before .before .before .before .before .before .before .before .before .before .before .before .before .before .r .given .1), c .before .before .before .before .before .before .before .before .before .before, c .before .before .before .before .before .before .before .before .before .before .before .before .before .before .before .before .before .before .before .before)
-
-loop-less : tie.Need-loop-less Inv-loop μ-loop
-loop-less c = omega (laws, done (c .before .r3 .given .1), done (c .before .before .before .before .before .r2 .given .1), done (c .before .before .before .before .before .before .before .before .before .before .before .before .before .before .before .r .given .1), c .before .before .before .before .before .before .before .before .before .before, c .before .before .before .before .before .before .before .before .before .before .before .before .before .before .before .before .before .before .before .before)
-
-loop-again : tie.Need-loop-again Inv-loop μ-loop
-loop-again c = omega (laws, done (c .before .r3 .given .1), done (c .before .before .before .before .before .r2 .given .1), done (c .before .before .before .before .before .before .before .before .before .before .before .before .before .before .before .r .given .1), c .before .before .before .before .before .before .before .before .before .before, c .before .before .before .before .before .before .before .before .before .before .before .before .before .before .before .before .before .before .before .before)
+add-children c = omega (arith, loop-room names-list (c .before .before .before .before .before .before .before .before .before .loop .inv no-limits) (omega arith))
 
 close-requires : tie.Need-close-requires Inv-loop μ-loop
-close-requires c κs = omega (laws, done (c .before .before .before .before .r .given .1))
+close-requires c κs = search needs
+
+same-length-2 : tie.Need-same-length-2 Inv-loop μ-loop
+same-length-2 c = kept-either (c .before .before .before .before .before .before .before .before .identifier .ensures .0 (counts no-limits)) ∙ (c .before .before .before .before .before .before .before .before .before .before .before .before .loop .inv no-limits) .kept
+
+returns-3 : tie.Need-returns-3 Inv-loop μ-loop
+returns-3 c = list-opened names-list 42 43 (tt) (c .before .before .before .before .before .before .before .before .before .before .before .before .before .before .before .before .«open» .ensures) (c .before .before .before .before .before .before .before .before .before .before .before .before .before .before .r .given .1) refl (loop-ends names-list (c .before .before .before .before .before .before .before .before .before .before .before .before .loop .inv (opened (c .before .before .before .before .before .before .before .before .before .before .before .before .before .before .before .before .before .before .before .args .limits))) 43 _ (tt) (true-so (c .before .before .before .before .before .before .before .before .before .before .before .is-name .ensures) (c .before .before .before .before .before .before .before .before .before .before .if1 .taken)) (c .before .before .before .before .before .before .before .before .identifier .ensures .0 (counts (opened (c .before .before .before .before .before .before .before .before .before .before .before .before .before .before .before .before .before .before .before .args .limits)))) (c .before .before .before .before .r2 .given .1) (c .before .if2 .taken) (c .close .ensures))
+
+take-requires : tie.Need-take-requires Inv-loop μ-loop
+take-requires c κs = search needs
+
+loop-less : tie.Need-loop-less Inv-loop μ-loop
+loop-less c = loop-falls names-list (c .before .before .before .before .before .before .before .before .before .before .before .before .loop .inv no-limits) (c .before .before .before .before .before .before .before .before .identifier .ensures .0 (counts no-limits)) (c .before .before .before .before .r2 .given .1) (c .before .if2 .left) (c .take .ensures)
+
+loop-again : tie.Need-loop-again Inv-loop μ-loop
+loop-again c = λ l. loop-more names-list (c .before .before .before .before .before .before .before .before .before .before .before .before .loop .inv l) (true-so (c .before .before .before .before .before .before .before .before .before .before .before .is-name .ensures) (c .before .before .before .before .before .before .before .before .before .before .if1 .taken)) (c .before .before .before .before .before .before .before .before .identifier .ensures .0 (counts l)) (c .before .before .before .before .r2 .given .1) (c .before .if2 .left) (c .take .ensures)
+
+close-requires-2 : tie.Need-close-requires-2 Inv-loop μ-loop
+close-requires-2 c κs = search needs
 
 same-length-3 : tie.Need-same-length-3 Inv-loop μ-loop
-same-length-3 c = omega (laws, done (c .before .before .before .before .before .r .given .1), c .before .before .before .before .before .before .before .before .before .before)
+same-length-3 c = (c .before .before .before .loop .inv no-limits) .kept
 
 returns-4 : tie.Need-returns-4 Inv-loop μ-loop
-returns-4 c = omega (laws, done (c .before .before .before .before .before .r .given .1), c .before .before .before .before .before .before .before .before .before .before)
+returns-4 c = list-opened names-list 42 43 (tt) (c .before .before .before .before .before .before .before .«open» .ensures) (c .before .before .before .before .before .r .given .1) refl (loop-closes names-list (c .before .before .before .loop .inv (opened (c .before .before .before .before .before .before .before .before .before .before .args .limits))) 43 _ (tt) (false-so (c .before .before .is-name .ensures) (c .before .if1 .left)) (c .close2 .ensures))
 
 pub names-spec : {M : Type 1} → statement M
 names-spec =
@@ -92,19 +98,19 @@ names-spec =
     enum-told
     returns
     loop-holds
+    is-name-requires
     identifier-requires
     enum-known-r-2
     enum-told-2
     same-length
     returns-2
-    comma-requires
-    enum-known-r-3
-    enum-told-3
+    add-children
+    close-requires
     same-length-2
     returns-3
-    add-children
+    take-requires
     loop-less
     loop-again
-    close-requires
+    close-requires-2
     same-length-3
     returns-4)

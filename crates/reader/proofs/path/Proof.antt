@@ -1,24 +1,32 @@
-use Prim.Native.Nat.{ℕ, _<_, _≤_, _-_, _*_, _+_}
-use mathlib.Core.Path.{_≡_}
+use mathlib.Core.List.{[], _∷_}
+use Rattle.grammar.specs.Words.{dot}
+use Prim.Native.Nat.{_+_, _-_}
 use lib.ListN.{length}
+use native.Mathlib.Omega.{arith}
+use Rattle.grammar.specs.Limits.{zeros}
+use Rattle.parser.proofs.Standing.{past-word, is-word}
+use Rattle.parser.proofs.Going.{few-rows}
+use Rattle.promises.proofs.Answered.{kept-either}
+use Rattle.promises.proofs.Leaves.{row-is}
+use Rattle.promises.proofs.Paths.{Goes, path-begins, path-refused, path-fails, path-more, path-onward, path-ends, undotted-refused, undotted-done}
 use borrow.Author.Needs.{needs}
-use Rattle.reader.specs.Laws.{laws, looked, done}
 use Rattle.reader.proofs.path.Statement.{statement}
 use Rattle.reader.proofs.path.Tie as tie
 use Rattle.reader.proofs.path.Reads as reads
 use Rattle.reader.proofs.path.Lts as lts
-use Rattle.reader.proofs.finish.Reads as finish-reads
+use Rattle.parser.proofs.finish.Reads as finish-reads
+use Rattle.parser.proofs.plain_row.Reads as plain-row-reads
+use Rattle.parser.proofs.take.Reads as take-reads
 use Rattle.reader.proofs.path_item.Reads as path-item-reads
-use Rattle.reader.proofs.take.Reads as take-reads
 
 abbrev Inv-loop : tie.InvT-loop
-Inv-loop s table₀ n first last₀ here₀ children₀ table last here children = (here₀ .next ≤ here .next) × (here .next ≤ length s + 1) × (last .rows + 3 * here₀ .next ≤ last₀ .rows + 3 * here .next) × (length table ≡ length table₀) × (children ≤ here .next)
+Inv-loop s table₀ first end₀ here₀ children₀ table end here children = Goes s (first .start) end₀ children₀ here₀ table₀ end children here table
 
 abbrev μ-loop : tie.MeasureT-loop
-μ-loop s table₀ n first last₀ here₀ children₀ table last here children = length s + 1 - here .next
+μ-loop s table₀ first end₀ here₀ children₀ table end here children = length s + 1 - here .next
 
 path-item-requires : tie.Need-path-item-requires Inv-loop μ-loop
-path-item-requires c κs = omega laws
+path-item-requires c κs = c .before .before .before .pre
 
 enum-known-r : tie.Need-enum-known-r Inv-loop μ-loop
 enum-known-r c = search needs
@@ -26,17 +34,20 @@ enum-known-r c = search needs
 enum-told : tie.Need-enum-told Inv-loop μ-loop
 enum-told c = search needs
 
-same-length : tie.Need-same-length Inv-loop μ-loop
-same-length c = omega laws
-
 returns : tie.Need-returns Inv-loop μ-loop
-returns c = omega laws
+returns c = (λ d. path-refused _ _ _ d (c .before .before .before .before .before .before .before .before .pre) (c .before .before .before .before .path-item .ensures) (c .enum-told .given .1), undotted-refused (c .enum-told .given .1))
+
+same-length : tie.Need-same-length Inv-loop μ-loop
+same-length c = kept-either (returns c .0 zeros)
 
 loop-holds : tie.Need-loop-holds Inv-loop μ-loop
-loop-holds c = omega (laws, done (c .before .r .given .1))
+loop-holds c = λ d i t b. b
 
 take-requires : tie.Need-take-requires Inv-loop μ-loop
-take-requires c κs = omega (laws, done (c .before .before .before .before .r .given .1), c .before .before .before .before .before .before .before .before .before .before)
+take-requires c κs = search needs
+
+path-item-requires-2 : tie.Need-path-item-requires-2 Inv-loop μ-loop
+path-item-requires-2 c κs = past-word (dot ∷ []) ((c .before .before .before .before .loop .inv zeros _ _ (path-begins _ _ _ zeros (c .before .before .before .before .before .before .before .before .before .before .before .before .before .before .pre) (c .before .before .before .before .before .before .before .before .before .before .path-item .ensures) (c .before .before .before .before .before .before .r .given .1))) .going .stands) tt (is-word (c .before .before .if1 .taken)) (c .before .take .ensures) .0
 
 enum-known-r-2 : tie.Need-enum-known-r-2 Inv-loop μ-loop
 enum-known-r-2 c = search needs
@@ -44,44 +55,32 @@ enum-known-r-2 c = search needs
 enum-told-2 : tie.Need-enum-told-2 Inv-loop μ-loop
 enum-told-2 c = search needs
 
-same-length-2 : tie.Need-same-length-2 Inv-loop μ-loop
-same-length-2 c = omega (laws, done (c .before .before .before .before .before .before .before .r .given .1), c .before .before .before .before .before .before .before .before .before .before)
-
 returns-2 : tie.Need-returns-2 Inv-loop μ-loop
-returns-2 c = omega (laws, done (c .before .before .before .before .before .before .before .r .given .1), c .before .before .before .before .before .before .before .before .before .before)
+returns-2 c = (λ d. path-fails _ _ _ d (c .before .before .before .before .before .before .before .before .before .loop .inv d _ _ (path-begins _ _ _ d (c .before .before .before .before .before .before .before .before .before .before .before .before .before .before .before .before .before .before .before .pre) (c .before .before .before .before .before .before .before .before .before .before .before .before .before .before .before .path-item .ensures) (c .before .before .before .before .before .before .before .before .before .before .before .r .given .1))) (c .before .before .before .before .before .before .before .if1 .taken) (c .before .before .before .before .before .before .take .ensures) (c .before .before .before .before .path-item2 .ensures) (c .enum-told2 .given .1), undotted-refused (c .enum-told2 .given .1))
 
-path-item-requires-2 : tie.Need-path-item-requires-2 Inv-loop μ-loop
-path-item-requires-2 c κs = omega (laws, done (c .before .before .r2 .given .1), done (c .before .before .before .before .before .before .before .before .before .r .given .1), c .before .before .before .before .before .before .before .before .before .before)
-
-enum-known-r-3 : tie.Need-enum-known-r-3 Inv-loop μ-loop
-enum-known-r-3 c = search needs
-
-enum-told-3 : tie.Need-enum-told-3 Inv-loop μ-loop
-enum-told-3 c = search needs
-
-same-length-3 : tie.Need-same-length-3 Inv-loop μ-loop
-same-length-3 c = omega (laws, done (c .before .before .before .before .before .before .before .r2 .given .1), done (c .before .before .before .before .before .before .before .before .before .before .before .before .before .before .r .given .1), c .before .before .before .before .before .before .before .before .before .before, c .before .before .before .before .before .before .before .before .before .before .before .before .before .before .before .before .before .before .before .before)
-
-returns-3 : tie.Need-returns-3 Inv-loop μ-loop
-returns-3 c = omega (laws, done (c .before .before .before .before .before .before .before .r2 .given .1), done (c .before .before .before .before .before .before .before .before .before .before .before .before .before .before .r .given .1), c .before .before .before .before .before .before .before .before .before .before, c .before .before .before .before .before .before .before .before .before .before .before .before .before .before .before .before .before .before .before .before)
+same-length-2 : tie.Need-same-length-2 Inv-loop μ-loop
+same-length-2 c = kept-either (returns-2 c .0 zeros)
 
 add-children : tie.Need-add-children Inv-loop μ-loop
-add-children c = omega (laws, done (c .before .r3 .given .1), done (c .before .before .before .before .before .before .before .before .r2 .given .1), done (c .before .before .before .before .before .before .before .before .before .before .before .before .before .before .before .r .given .1), c .before .before .before .before .before .before .before .before .before .before, c .before .before .before .before .before .before .before .before .before .before .before .before .before .before .before .before .before .before .before .before)
+add-children c = omega (arith, few-rows ((c .before .before .before .before .before .before .before .before .before .before .loop .inv zeros _ _ (path-begins _ _ _ zeros (c .before .before .before .before .before .before .before .before .before .before .before .before .before .before .before .before .before .before .before .before .pre) (c .before .before .before .before .before .before .before .before .before .before .before .before .before .before .before .before .path-item .ensures) (c .before .before .before .before .before .before .before .before .before .before .before .before .r .given .1))) .going))
 
 loop-less : tie.Need-loop-less Inv-loop μ-loop
-loop-less c = omega (laws, done (c .before .r3 .given .1), done (c .before .before .before .before .before .before .before .before .r2 .given .1), done (c .before .before .before .before .before .before .before .before .before .before .before .before .before .before .before .r .given .1), c .before .before .before .before .before .before .before .before .before .before, c .before .before .before .before .before .before .before .before .before .before .before .before .before .before .before .before .before .before .before .before)
+loop-less c = omega (arith, path-onward _ _ _ zeros (c .before .before .before .before .before .before .before .before .before .before .loop .inv zeros _ _ (path-begins _ _ _ zeros (c .before .before .before .before .before .before .before .before .before .before .before .before .before .before .before .before .before .before .before .before .pre) (c .before .before .before .before .before .before .before .before .before .before .before .before .before .before .before .before .path-item .ensures) (c .before .before .before .before .before .before .before .before .before .before .before .before .r .given .1))) (c .before .before .before .before .before .before .before .before .if1 .taken) (c .before .before .before .before .before .before .before .take .ensures) (c .before .before .before .before .before .path-item2 .ensures) (c .before .r2 .given .1))
 
 loop-again : tie.Need-loop-again Inv-loop μ-loop
-loop-again c = omega (laws, done (c .before .r3 .given .1), done (c .before .before .before .before .before .before .before .before .r2 .given .1), done (c .before .before .before .before .before .before .before .before .before .before .before .before .before .before .before .r .given .1), c .before .before .before .before .before .before .before .before .before .before, c .before .before .before .before .before .before .before .before .before .before .before .before .before .before .before .before .before .before .before .before)
+loop-again c = λ d i t b. path-more _ _ _ d (c .before .before .before .before .before .before .before .before .before .before .loop .inv d i t b) (c .before .before .before .before .before .before .before .before .if1 .taken) (c .before .before .before .before .before .before .before .take .ensures) (c .before .before .before .before .before .path-item2 .ensures) (c .before .r2 .given .1)
+
+plain-row-requires : tie.Need-plain-row-requires Inv-loop μ-loop
+plain-row-requires c κs = search needs
 
 finish-requires : tie.Need-finish-requires Inv-loop μ-loop
-finish-requires c κs = omega (laws, done (c .before .before .before .before .before .r .given .1), c .before .before .before .before .before .before .before .before .before .before)
+finish-requires c κs = search needs
 
-same-length-4 : tie.Need-same-length-4 Inv-loop μ-loop
-same-length-4 c = omega (laws, done (c .before .before .before .before .before .before .before .before .r .given .1), c .before .before .before .before .before .before .before .before .before .before)
+returns-3 : tie.Need-returns-3 Inv-loop μ-loop
+returns-3 c = (λ d. path-ends _ _ _ d (c .before .before .before .before .before .before .before .loop .inv d _ _ (path-begins _ _ _ d (c .before .before .before .before .before .before .before .before .before .before .before .before .before .before .before .before .before .pre) (c .before .before .before .before .before .before .before .before .before .before .before .before .before .path-item .ensures) (c .before .before .before .before .before .before .before .before .before .r .given .1))) (c .before .before .before .before .before .if1 .left) (row-is _ _ (c .before .before .before .plain-row .ensures) (c .before .before .finish .ensures) .0) (row-is _ _ (c .before .before .before .plain-row .ensures) (c .before .before .finish .ensures) .1), undotted-done (c .before .before .finish .ensures .0) (c .before .before .before .before .before .if1 .left))
 
-returns-4 : tie.Need-returns-4 Inv-loop μ-loop
-returns-4 c = omega (laws, done (c .before .before .before .before .before .before .before .before .r .given .1), c .before .before .before .before .before .before .before .before .before .before)
+same-length-3 : tie.Need-same-length-3 Inv-loop μ-loop
+same-length-3 c = kept-either (returns-3 c .0 zeros)
 
 pub path-spec : {M : Type 1} → statement M
 path-spec =
@@ -96,18 +95,15 @@ path-spec =
     returns
     loop-holds
     take-requires
+    path-item-requires-2
     enum-known-r-2
     enum-told-2
     same-length-2
     returns-2
-    path-item-requires-2
-    enum-known-r-3
-    enum-told-3
-    same-length-3
-    returns-3
     add-children
     loop-less
     loop-again
+    plain-row-requires
     finish-requires
-    same-length-4
-    returns-4)
+    same-length-3
+    returns-3)

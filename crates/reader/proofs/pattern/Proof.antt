@@ -1,35 +1,38 @@
-use Prim.Native.Nat.{ℕ, _<_, _≤_, _-_, _*_, _+_}
-use mathlib.Core.Path.{_≡_}
-use lib.ListN.{length}
+use native.Mathlib.Omega.{arith}
+use Rattle.promises.proofs.Answered.{kept-either, not-both}
+use Rattle.promises.proofs.Types.{no-pattern, variant-read, variant-alone, names-refused, names-read, names-ended}
+use Rattle.parser.specs.Counted.{counts}
+use Rattle.parser.proofs.Going.{few-rows}
 use borrow.Author.Needs.{needs}
-use Rattle.reader.specs.Laws.{laws, looked, done}
 use Rattle.reader.proofs.pattern.Statement.{statement}
 use Rattle.reader.proofs.pattern.Tie as tie
 use Rattle.reader.proofs.pattern.Reads as reads
 use Rattle.reader.proofs.pattern.Lts as lts
+use Rattle.parser.proofs.finish.Reads as finish-reads
+use Rattle.parser.proofs.plain_row.Reads as plain-row-reads
+use Rattle.parser.proofs.unusable.Reads as unusable-reads
 use Rattle.reader.proofs.any_pattern.Reads as any-pattern-reads
-use Rattle.reader.proofs.finish.Reads as finish-reads
 use Rattle.reader.proofs.item.Reads as item-reads
 use Rattle.reader.proofs.names.Reads as names-reads
-use Rattle.reader.proofs.unusable.Reads as unusable-reads
+use Rattle.reader.proofs.valued_row.Reads as valued-row-reads
 
 any-pattern-requires : tie.Need-any-pattern-requires
-any-pattern-requires c κs = omega laws
+any-pattern-requires c κs = search needs
 
 same-length : tie.Need-same-length
-same-length c = omega laws
+same-length c = search needs
 
 returns : tie.Need-returns
-returns c = omega laws
+returns c = c .before .before .any-pattern .ensures (counts (c .before .before .before .before .before .before .before .before .args .limits))
 
 unusable-requires : tie.Need-unusable-requires
 unusable-requires c κs = search needs
 
 returns-2 : tie.Need-returns-2
-returns-2 c = omega laws
+returns-2 c = no-pattern (c .before .before .before .before .before .before .before .pre) (c .before .before .before .if1 .left) (c .before .if2 .taken) (c .unusable .ensures)
 
 item-requires : tie.Need-item-requires
-item-requires c κs = omega laws
+item-requires c κs = search needs
 
 enum-known-r : tie.Need-enum-known-r
 enum-known-r c = search needs
@@ -38,22 +41,25 @@ enum-told : tie.Need-enum-told
 enum-told c = search needs
 
 same-length-2 : tie.Need-same-length-2
-same-length-2 c = omega (laws, c .before .before .before .before .before .before .before .before .before .before)
+same-length-2 c = search needs
 
 returns-3 : tie.Need-returns-3
-returns-3 c = omega (laws, c .before .before .before .before .before .before .before .before .before .before)
+returns-3 c = not-both (c .before .before .before .before .item .ensures .0) (c .enum-told .given .1)
+
+plain-row-requires : tie.Need-plain-row-requires
+plain-row-requires c κs = search needs
 
 finish-requires : tie.Need-finish-requires
-finish-requires c κs = omega (laws, done (c .before .before .before .before .r .given .1), c .before .before .before .before .before .before .before .before .before .before)
+finish-requires c κs = search needs
 
 same-length-3 : tie.Need-same-length-3
-same-length-3 c = omega (laws, done (c .before .before .before .before .before .before .before .r .given .1), c .before .before .before .before .before .before .before .before .before .before)
+same-length-3 c = search needs
 
 returns-4 : tie.Need-returns-4
-returns-4 c = omega (laws, done (c .before .before .before .before .before .before .before .r .given .1), c .before .before .before .before .before .before .before .before .before .before)
+returns-4 c = variant-alone (c .before .before .before .before .before .before .before .before .before .before .before .before .before .before .before .before .before .before .before .before .pre) (c .before .before .before .before .before .before .before .before .before .before .before .before .before .before .if2 .left) (c .before .before .before .before .before .before .before .before .before .before .before .before .item .ensures .0) (c .before .before .before .before .before .before .before .before .before .before .before .before .item .ensures .1) (c .before .before .before .before .before .before .before .before .r .given .1) (c .before .before .before .before .before .if3 .taken) (c .before .before .before .plain-row .ensures) (c .before .before .finish .ensures .0) (c .before .before .finish .ensures .1)
 
 names-requires : tie.Need-names-requires
-names-requires c κs = omega (laws, done (c .before .before .before .before .r .given .1), c .before .before .before .before .before .before .before .before .before .before)
+names-requires c κs = variant-read {l = c .before .before .before .before .before .before .before .before .before .before .before .before .before .before .before .before .args .limits} (c .before .before .before .before .before .before .before .before .before .before .before .before .before .before .before .before .pre) (c .before .before .before .before .before .before .before .before .before .before .if2 .left) (c .before .before .before .before .before .before .before .before .item .ensures .0) (c .before .before .before .before .before .before .before .before .item .ensures .1) (c .before .before .before .before .r .given .1) .stands
 
 enum-known-r-2 : tie.Need-enum-known-r-2
 enum-known-r-2 c = search needs
@@ -62,22 +68,25 @@ enum-told-2 : tie.Need-enum-told-2
 enum-told-2 c = search needs
 
 same-length-4 : tie.Need-same-length-4
-same-length-4 c = omega (laws, done (c .before .before .before .before .before .before .before .before .before .r .given .1), c .before .before .before .before .before .before .before .before .before .before, c .before .before .before .before .before .before .before .before .before .before .before .before .before .before .before .before .before .before .before .before)
+same-length-4 c = search needs
 
 returns-5 : tie.Need-returns-5
-returns-5 c = omega (laws, done (c .before .before .before .before .before .before .before .before .before .r .given .1), c .before .before .before .before .before .before .before .before .before .before, c .before .before .before .before .before .before .before .before .before .before .before .before .before .before .before .before .before .before .before .before)
+returns-5 c = names-refused (c .before .before .before .before .before .before .before .before .before .before .before .before .before .before .before .before .before .before .before .before .before .pre) (c .before .before .before .before .before .before .before .before .before .before .before .before .before .before .before .if2 .left) (c .before .before .before .before .before .before .before .before .before .before .before .before .before .item .ensures .0) (c .before .before .before .before .before .before .before .before .before .before .before .before .before .item .ensures .1) (c .before .before .before .before .before .before .before .before .before .r .given .1) (c .before .before .before .before .before .before .if3 .left) (c .before .before .before .before .names .ensures) (c .enum-told2 .given .1)
 
-add-t23 : tie.Need-add-t23
-add-t23 c = omega (laws, done (c .before .before .r2 .given .1), done (c .before .before .before .before .before .before .before .before .before .before .before .r .given .1), c .before .before .before .before .before .before .before .before .before .before, c .before .before .before .before .before .before .before .before .before .before .before .before .before .before .before .before .before .before .before .before)
+add-valued-row : tie.Need-add-valued-row
+add-valued-row c = omega (arith, few-rows (names-read {l = c .before .before .before .before .before .before .before .before .before .before .before .before .before .before .before .before .before .before .before .before .before .before .before .args .limits} (c .before .before .before .before .before .before .before .before .before .before .before .before .before .before .before .before .before .before .before .before .before .before .before .pre) (c .before .before .before .before .before .before .before .before .before .before .before .before .before .before .before .before .before .if2 .left) (c .before .before .before .before .before .before .before .before .before .before .before .before .before .before .before .item .ensures .0) (c .before .before .before .before .before .before .before .before .before .before .before .before .before .before .before .item .ensures .1) (c .before .before .before .before .before .before .before .before .before .before .before .r .given .1) (c .before .before .before .before .before .before .before .before .if3 .left) (c .before .before .before .before .before .before .names .ensures) (c .before .before .r2 .given .1)))
+
+valued-row-requires : tie.Need-valued-row-requires
+valued-row-requires c κs = search needs
 
 finish-requires-2 : tie.Need-finish-requires-2
-finish-requires-2 c κs = omega (laws, done (c .before .before .before .r2 .given .1), done (c .before .before .before .before .before .before .before .before .before .before .before .before .r .given .1), c .before .before .before .before .before .before .before .before .before .before, c .before .before .before .before .before .before .before .before .before .before .before .before .before .before .before .before .before .before .before .before)
+finish-requires-2 c κs = search needs
 
 same-length-5 : tie.Need-same-length-5
-same-length-5 c = omega (laws, done (c .before .before .before .before .before .before .r2 .given .1), done (c .before .before .before .before .before .before .before .before .before .before .before .before .before .before .before .r .given .1), c .before .before .before .before .before .before .before .before .before .before, c .before .before .before .before .before .before .before .before .before .before .before .before .before .before .before .before .before .before .before .before)
+same-length-5 c = kept-either (names-ended {l = c .before .before .before .before .before .before .before .before .before .before .before .before .before .before .before .before .before .before .before .before .before .before .before .before .before .before .before .before .args .limits} (c .before .before .before .before .before .before .before .before .before .before .before .before .before .before .before .before .before .before .before .before .before .before .before .before .before .before .before .before .pre) (c .before .before .before .before .before .before .before .before .before .before .before .before .before .before .before .before .before .before .before .before .before .before .if2 .left) (c .before .before .before .before .before .before .before .before .before .before .before .before .before .before .before .before .before .before .before .before .item .ensures .0) (c .before .before .before .before .before .before .before .before .before .before .before .before .before .before .before .before .before .before .before .before .item .ensures .1) (c .before .before .before .before .before .before .before .before .before .before .before .before .before .before .before .before .r .given .1) (c .before .before .before .before .before .before .before .before .before .before .before .before .before .if3 .left) (c .before .before .before .before .before .before .before .before .before .before .before .names .ensures) (c .before .before .before .before .before .before .before .r2 .given .1) (c .before .before .before .before .valued-row .ensures) (c .before .before .finish2 .ensures .0) (c .before .before .finish2 .ensures .1))
 
 returns-6 : tie.Need-returns-6
-returns-6 c = omega (laws, done (c .before .before .before .before .before .before .r2 .given .1), done (c .before .before .before .before .before .before .before .before .before .before .before .before .before .before .before .r .given .1), c .before .before .before .before .before .before .before .before .before .before, c .before .before .before .before .before .before .before .before .before .before .before .before .before .before .before .before .before .before .before .before)
+returns-6 c = names-ended (c .before .before .before .before .before .before .before .before .before .before .before .before .before .before .before .before .before .before .before .before .before .before .before .before .before .before .before .before .pre) (c .before .before .before .before .before .before .before .before .before .before .before .before .before .before .before .before .before .before .before .before .before .before .if2 .left) (c .before .before .before .before .before .before .before .before .before .before .before .before .before .before .before .before .before .before .before .before .item .ensures .0) (c .before .before .before .before .before .before .before .before .before .before .before .before .before .before .before .before .before .before .before .before .item .ensures .1) (c .before .before .before .before .before .before .before .before .before .before .before .before .before .before .before .before .r .given .1) (c .before .before .before .before .before .before .before .before .before .before .before .before .before .if3 .left) (c .before .before .before .before .before .before .before .before .before .before .before .names .ensures) (c .before .before .before .before .before .before .before .r2 .given .1) (c .before .before .before .before .valued-row .ensures) (c .before .before .finish2 .ensures .0) (c .before .before .finish2 .ensures .1)
 
 pub pattern-spec : {M : Type 1} → statement M
 pattern-spec =
@@ -93,6 +102,7 @@ pattern-spec =
     enum-told
     same-length-2
     returns-3
+    plain-row-requires
     finish-requires
     same-length-3
     returns-4
@@ -101,7 +111,8 @@ pattern-spec =
     enum-told-2
     same-length-4
     returns-5
-    add-t23
+    add-valued-row
+    valued-row-requires
     finish-requires-2
     same-length-5
     returns-6)

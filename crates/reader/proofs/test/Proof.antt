@@ -1,19 +1,20 @@
-use Prim.Native.Nat.{ℕ, _<_, _≤_, _-_, _*_, _+_}
-use mathlib.Core.Path.{_≡_}
-use lib.ListN.{length}
+use mathlib.Core.List.{[], _∷_}
+use Rattle.parser.proofs.Standing.{past-word, is-word}
+use Rattle.promises.proofs.Imports.{limited}
+use Rattle.promises.proofs.Declarations.{test-unnamed, test-named, test-no-block, test-read}
+use Rattle.promises.proofs.Answered.{kept-either}
 use borrow.Author.Needs.{needs}
-use Rattle.reader.specs.Laws.{laws, looked, done}
 use Rattle.reader.proofs.test.Statement.{statement}
 use Rattle.reader.proofs.test.Tie as tie
-use Rattle.reader.proofs.test.Reads as reads
-use Rattle.reader.proofs.test.Lts as lts
-use Rattle.reader.proofs.take.Reads as take-reads
-use Rattle.reader.proofs.identifier.Reads as identifier-reads
-use Rattle.reader.proofs.block.Reads as block-reads
-use Rattle.reader.proofs.finish.Reads as finish-reads
+
+plain-requires : tie.Need-plain-requires
+plain-requires c κs = search needs
 
 take-requires : tie.Need-take-requires
-take-requires c κs = omega laws
+take-requires c κs = search needs
+
+identifier-requires : tie.Need-identifier-requires
+identifier-requires c κs = past-word (80 ∷ []) (c .before .before .before .before .before .pre .0) tt (is-word (c .before .before .before .before .before .pre .1)) (c .before .take .ensures) .0
 
 enum-known-r : tie.Need-enum-known-r
 enum-known-r c = search needs
@@ -21,11 +22,14 @@ enum-known-r c = search needs
 enum-told : tie.Need-enum-told
 enum-told c = search needs
 
-returns : tie.Need-returns
-returns c = omega laws
+same-length : tie.Need-same-length
+same-length c = search needs
 
-identifier-requires : tie.Need-identifier-requires
-identifier-requires c κs = omega (laws, done (c .before .before .r .given .1))
+returns : tie.Need-returns
+returns c = test-unnamed _ (c .before .before .before .before .before .before .before .before .before .before .args .limits) _ _ (c .before .before .before .before .before .before .before .before .before .before .pre .0) (c .before .before .before .before .before .before .before .before .before .before .pre .1) (c .before .before .before .before .before .before .take .ensures) (c .before .before .before .before .identifier .ensures .0) (c .enum-told .given .1)
+
+block-requires : tie.Need-block-requires
+block-requires c κs = test-named _ (c .before .before .before .before .before .before .before .before .before .before .before .before .args .limits) _ _ (c .before .before .before .before .before .before .before .before .before .before .before .before .pre .0) (c .before .before .before .before .before .before .before .before .before .before .before .before .pre .1) (c .before .before .before .before .before .before .before .before .take .ensures) (c .before .before .before .before .before .before .identifier .ensures .0) (c .before .before .r .given .1) .stands
 
 enum-known-r-2 : tie.Need-enum-known-r-2
 enum-known-r-2 c = search needs
@@ -33,35 +37,23 @@ enum-known-r-2 c = search needs
 enum-told-2 : tie.Need-enum-told-2
 enum-told-2 c = search needs
 
-same-length : tie.Need-same-length
-same-length c = omega (laws, done (c .before .before .before .before .before .before .before .r .given .1), c .before .before .before .before .before .before .before .before .before .before)
+same-length-2 : tie.Need-same-length-2
+same-length-2 c = search needs
 
 returns-2 : tie.Need-returns-2
-returns-2 c = omega (laws, done (c .before .before .before .before .before .before .before .r .given .1), c .before .before .before .before .before .before .before .before .before .before)
+returns-2 c = test-no-block _ (c .before .before .before .before .before .before .before .before .before .before .before .before .before .before .before .before .before .args .limits) _ _ (c .before .before .before .before .before .before .before .before .before .before .before .before .before .before .before .before .before .pre .0) (c .before .before .before .before .before .before .before .before .before .before .before .before .before .before .before .before .before .pre .1) (c .before .before .before .before .before .before .before .before .before .before .before .before .before .take .ensures) (c .before .before .before .before .before .before .before .before .before .before .before .identifier .ensures .0) (c .before .before .before .before .before .before .before .r .given .1) (limited (c .before .before .before .before .before .before .before .before .before .before .before .before .before .before .plain .ensures) (c .before .before .before .before .block .ensures)) (c .enum-told2 .given .1)
 
-block-requires : tie.Need-block-requires
-block-requires c κs = omega (laws, done (c .before .before .r2 .given .1), done (c .before .before .before .before .before .before .before .before .before .r .given .1), c .before .before .before .before .before .before .before .before .before .before)
-
-enum-known-r-3 : tie.Need-enum-known-r-3
-enum-known-r-3 c = search needs
-
-enum-told-3 : tie.Need-enum-told-3
-enum-told-3 c = search needs
-
-same-length-2 : tie.Need-same-length-2
-same-length-2 c = omega (laws, done (c .before .before .before .before .before .before .before .r2 .given .1), done (c .before .before .before .before .before .before .before .before .before .before .before .before .before .before .r .given .1), c .before .before .before .before .before .before .before .before .before .before)
-
-returns-3 : tie.Need-returns-3
-returns-3 c = omega (laws, done (c .before .before .before .before .before .before .before .r2 .given .1), done (c .before .before .before .before .before .before .before .before .before .before .before .before .before .before .r .given .1), c .before .before .before .before .before .before .before .before .before .before)
+plain-row-requires : tie.Need-plain-row-requires
+plain-row-requires c κs = search needs
 
 finish-requires : tie.Need-finish-requires
-finish-requires c κs = omega (laws, done (c .before .before .r3 .given .1), done (c .before .before .before .before .before .before .before .before .before .r2 .given .1), done (c .before .before .before .before .before .before .before .before .before .before .before .before .before .before .before .before .r .given .1), c .before .before .before .before .before .before .before .before .before .before, c .before .before .before .before .before .before .before .before .before .before .before .before .before .before .before .before .before .before .before .before)
+finish-requires c κs = search needs
 
 same-length-3 : tie.Need-same-length-3
-same-length-3 c = omega (laws, done (c .before .before .before .before .before .r3 .given .1), done (c .before .before .before .before .before .before .before .before .before .before .before .before .r2 .given .1), done (c .before .before .before .before .before .before .before .before .before .before .before .before .before .before .before .before .before .before .before .r .given .1), c .before .before .before .before .before .before .before .before .before .before, c .before .before .before .before .before .before .before .before .before .before .before .before .before .before .before .before .before .before .before .before)
+same-length-3 c = kept-either (test-read _ (c .before .before .before .before .before .before .before .before .before .before .before .before .before .before .before .before .before .before .before .before .before .before .before .args .limits) _ _ (c .before .before .before .before .before .before .before .before .before .before .before .before .before .before .before .before .before .before .before .before .before .before .before .pre .0) (c .before .before .before .before .before .before .before .before .before .before .before .before .before .before .before .before .before .before .before .before .before .before .before .pre .1) (c .before .before .before .before .before .before .before .before .before .before .before .before .before .before .before .before .before .before .before .take .ensures) (c .before .before .before .before .before .before .before .before .before .before .before .before .before .before .before .before .before .identifier .ensures .0) (c .before .before .before .before .before .before .before .before .before .before .before .before .before .r .given .1) (limited (c .before .before .before .before .before .before .before .before .before .before .before .before .before .before .before .before .before .before .before .before .plain .ensures) (c .before .before .before .before .before .before .before .before .before .before .block .ensures)) (c .before .before .before .before .before .before .r2 .given .1) (c .before .before .before .plain-row .ensures) (c .before .before .finish .ensures))
 
-returns-4 : tie.Need-returns-4
-returns-4 c = omega (laws, done (c .before .before .before .before .before .r3 .given .1), done (c .before .before .before .before .before .before .before .before .before .before .before .before .r2 .given .1), done (c .before .before .before .before .before .before .before .before .before .before .before .before .before .before .before .before .before .before .before .r .given .1), c .before .before .before .before .before .before .before .before .before .before, c .before .before .before .before .before .before .before .before .before .before .before .before .before .before .before .before .before .before .before .before)
+returns-3 : tie.Need-returns-3
+returns-3 c = test-read _ (c .before .before .before .before .before .before .before .before .before .before .before .before .before .before .before .before .before .before .before .before .before .before .before .args .limits) _ _ (c .before .before .before .before .before .before .before .before .before .before .before .before .before .before .before .before .before .before .before .before .before .before .before .pre .0) (c .before .before .before .before .before .before .before .before .before .before .before .before .before .before .before .before .before .before .before .before .before .before .before .pre .1) (c .before .before .before .before .before .before .before .before .before .before .before .before .before .before .before .before .before .before .before .take .ensures) (c .before .before .before .before .before .before .before .before .before .before .before .before .before .before .before .before .before .identifier .ensures .0) (c .before .before .before .before .before .before .before .before .before .before .before .before .before .r .given .1) (limited (c .before .before .before .before .before .before .before .before .before .before .before .before .before .before .before .before .before .before .before .before .plain .ensures) (c .before .before .before .before .before .before .before .before .before .before .block .ensures)) (c .before .before .before .before .before .before .r2 .given .1) (c .before .before .before .plain-row .ensures) (c .before .before .finish .ensures)
 
 pub test-spec : {M : Type 1} → statement M
-test-spec = tie.close (tie.spec take-requires enum-known-r enum-told returns identifier-requires enum-known-r-2 enum-told-2 same-length returns-2 block-requires enum-known-r-3 enum-told-3 same-length-2 returns-3 finish-requires same-length-3 returns-4)
+test-spec = tie.close (tie.spec plain-requires take-requires identifier-requires enum-known-r enum-told same-length returns block-requires enum-known-r-2 enum-told-2 same-length-2 returns-2 plain-row-requires finish-requires same-length-3 returns-3)

@@ -1,24 +1,31 @@
-use Prim.Native.Nat.{ℕ, _<_, _≤_, _-_, _*_, _+_}
-use mathlib.Core.Path.{_≡_}
-use lib.ListN.{length}
+use Rattle.promises.proofs.Answered.{kept-either}
+use Rattle.promises.proofs.Types.{sign-solid, type-absent, type-fails, type-present}
+use Rattle.parser.proofs.Standing.{past-word, is-word}
+use mathlib.Core.List.{[], _∷_}
 use borrow.Author.Needs.{needs}
-use Rattle.reader.specs.Laws.{laws, looked, done}
 use Rattle.reader.proofs.typing.Statement.{statement}
 use Rattle.reader.proofs.typing.Tie as tie
 use Rattle.reader.proofs.typing.Reads as reads
 use Rattle.reader.proofs.typing.Lts as lts
-use Rattle.reader.proofs.stay.Reads as stay-reads
-use Rattle.reader.proofs.take.Reads as take-reads
+use Rattle.parser.proofs.Limits.plain.Reads as plain-reads
+use Rattle.parser.proofs.take.Reads as take-reads
+use Rattle.reader.proofs.part.Reads as part-reads
 use Rattle.reader.proofs.type_expr.Reads as type-expr-reads
 
-stay-requires : tie.Need-stay-requires
-stay-requires c κs = omega laws
+part-requires : tie.Need-part-requires
+part-requires c κs = search needs
 
 returns : tie.Need-returns
-returns c = omega laws
+returns c = type-absent (c .before .if1 .taken) (c .part .ensures)
 
 take-requires : tie.Need-take-requires
-take-requires c κs = omega laws
+take-requires c κs = search needs
+
+plain-requires : tie.Need-plain-requires
+plain-requires c κs = search needs
+
+type-expr-requires : tie.Need-type-expr-requires
+type-expr-requires c κs = past-word (c .before .before .before .before .before .before .before .args .sign ∷ []) (c .before .before .before .before .before .before .before .pre .0) (sign-solid (c .before .before .before .before .before .before .before .pre .1)) (is-word (c .before .before .before .if1 .left)) (c .before .before .take .ensures) .0
 
 enum-known-r : tie.Need-enum-known-r
 enum-known-r c = search needs
@@ -26,32 +33,34 @@ enum-known-r c = search needs
 enum-told : tie.Need-enum-told
 enum-told c = search needs
 
-returns-2 : tie.Need-returns-2
-returns-2 c = omega laws
-
-type-expr-requires : tie.Need-type-expr-requires
-type-expr-requires c κs = omega (laws, done (c .before .before .r .given .1))
-
-enum-known-r-2 : tie.Need-enum-known-r-2
-enum-known-r-2 c = search needs
-
-enum-told-2 : tie.Need-enum-told-2
-enum-told-2 c = search needs
-
 same-length : tie.Need-same-length
-same-length c = omega (laws, done (c .before .before .before .before .before .before .before .r .given .1), c .before .before .before .before .before .before .before .before .before .before)
+same-length c = kept-either (c .before .before .before .before .type-expr .ensures)
 
-returns-3 : tie.Need-returns-3
-returns-3 c = omega (laws, done (c .before .before .before .before .before .before .before .r .given .1), c .before .before .before .before .before .before .before .before .before .before)
+returns-2 : tie.Need-returns-2
+returns-2 c = type-fails (c .before .before .before .before .before .before .before .before .before .before .before .before .pre .1) (c .before .before .before .before .before .before .before .before .if1 .left) (c .before .before .before .before .before .before .before .take .ensures) (c .before .before .before .before .before .plain .ensures) (c .before .before .before .before .type-expr .ensures) (c .enum-told .given .1)
 
-stay-requires-2 : tie.Need-stay-requires-2
-stay-requires-2 c κs = omega (laws, done (c .before .r2 .given .1), done (c .before .before .before .before .before .before .before .before .r .given .1), c .before .before .before .before .before .before .before .before .before .before)
+part-requires-2 : tie.Need-part-requires-2
+part-requires-2 c κs = search needs
 
 same-length-2 : tie.Need-same-length-2
-same-length-2 c = omega (laws, done (c .before .before .r2 .given .1), done (c .before .before .before .before .before .before .before .before .before .r .given .1), c .before .before .before .before .before .before .before .before .before .before)
+same-length-2 c = kept-either (c .before .before .before .before .before .before .type-expr .ensures)
 
-returns-4 : tie.Need-returns-4
-returns-4 c = omega (laws, done (c .before .before .r2 .given .1), done (c .before .before .before .before .before .before .before .before .before .r .given .1), c .before .before .before .before .before .before .before .before .before .before)
+returns-3 : tie.Need-returns-3
+returns-3 c = type-present (c .before .before .before .before .before .before .before .before .before .before .before .before .before .before .pre .1) (c .before .before .before .before .before .before .before .before .before .before .if1 .left) (c .before .before .before .before .before .before .before .before .before .take .ensures) (c .before .before .before .before .before .before .before .plain .ensures) (c .before .before .before .before .before .before .type-expr .ensures) (c .before .before .r .given .1) (c .part2 .ensures)
 
 pub typing-spec : {M : Type 1} → statement M
-typing-spec = tie.close (tie.spec stay-requires returns take-requires enum-known-r enum-told returns-2 type-expr-requires enum-known-r-2 enum-told-2 same-length returns-3 stay-requires-2 same-length-2 returns-4)
+typing-spec =
+    tie.close
+    (tie.spec
+    part-requires
+    returns
+    take-requires
+    plain-requires
+    type-expr-requires
+    enum-known-r
+    enum-told
+    same-length
+    returns-2
+    part-requires-2
+    same-length-2
+    returns-3)

@@ -1,28 +1,35 @@
-use Prim.Native.Nat.{ℕ, _<_, _≤_, _-_, _*_, _+_}
-use mathlib.Core.Path.{_≡_}
-use lib.ListN.{length}
+use Prim.Native.Nat.{ℕ, _-_}
+use native.Mathlib.Omega.{arith}
 use borrow.Author.Needs.{needs}
-use Rattle.reader.specs.Laws.{laws, looked, done}
+use borrow.Author.Tests.{not-true, not-false}
+use Rattle.words.proofs.Tests.{true-so, false-so}
+use Rattle.grammar.specs.Limits.{zeros}
+use Rattle.parser.proofs.Going.{few-rows}
+use Rattle.promises.proofs.Answered.{further, kept-either}
+use Rattle.promises.proofs.Imports.{Goes, path-begins, path-refused, path-onward, path-grouped, path-neither, path-fails, path-more, path-ends}
 use Rattle.reader.proofs.import_group.Reads as import-group
 use Rattle.reader.proofs.import_path.Reads as import-path
 use Rattle.reader.proofs.+import_group+import_path.Lts-import_path as import-path-lts
-use Rattle.reader.proofs.finish.Reads as finish-reads
+use Rattle.parser.proofs.finish.Reads as finish-reads
+use Rattle.parser.proofs.plain_row.Reads as plain-row-reads
+use Rattle.parser.proofs.take.Reads as take-reads
+use Rattle.parser.proofs.unusable.Reads as unusable-reads
+use Rattle.words.proofs.is_path_item.Reads as is-path-item-reads
 use Rattle.reader.proofs.path_item.Reads as path-item-reads
-use Rattle.reader.proofs.take.Reads as take-reads
 use Rattle.reader.proofs.+import_group+import_path.Proof.Measures.{import-group-below, import-path-at}
 
 abbrev Inv-loop : import-path-lts.InvT-loop
-Inv-loop s table₀ n limits first last₀ here₀ children₀ table last here children = (here₀ .next ≤ here .next) × (here .next ≤ length s + 1) × (last .rows + 3 * here₀ .next ≤ last₀ .rows + 3 * here .next) × (length table ≡ length table₀) × (last .children ≤ here .next) × (children ≤ here .next)
+Inv-loop s table₀ limits first end₀ here₀ children₀ table end here children = Goes s limits (first .start) end₀ children₀ here₀ table₀ end children here table
 
 abbrev μ-loop : import-path-lts.MeasureT-loop
-μ-loop s table₀ n limits first last₀ here₀ children₀ table last here children = length s + 1 - here .next
+μ-loop s table₀ limits first end₀ here₀ children₀ table end here children = 70000 - here .next
 
 module _ (t : ℕ) where
   abbrev told : import-path-lts.Claims
-  told = (path-item-reads.Asked, path-item-reads.Learnt, take-reads.Asked, take-reads.Learnt, import-group-below t, import-group.Post, finish-reads.Asked, finish-reads.Learnt)
+  told = (path-item-reads.Asked, path-item-reads.Learnt, take-reads.Asked, take-reads.Learnt, import-group-below t, import-group.Post, is-path-item-reads.Asked, is-path-item-reads.Learnt, unusable-reads.Asked, unusable-reads.Learnt, plain-row-reads.Asked, plain-row-reads.Learnt, finish-reads.Asked, finish-reads.Learnt)
 
   path-item-requires : import-path-lts.Need-path-item-requires told (import-path-at t) import-path.Post Inv-loop μ-loop
-  path-item-requires c κs = omega laws
+  path-item-requires c κs = c .before .before .before .pre .1
 
   enum-known-r : import-path-lts.Need-enum-known-r told (import-path-at t) import-path.Post Inv-loop μ-loop
   enum-known-r c = search needs
@@ -31,16 +38,40 @@ module _ (t : ℕ) where
   enum-told c = search needs
 
   same-length : import-path-lts.Need-same-length told (import-path-at t) import-path.Post Inv-loop μ-loop
-  same-length c = omega laws
+  same-length c = search needs
 
   returns : import-path-lts.Need-returns told (import-path-at t) import-path.Post Inv-loop μ-loop
-  returns c = omega laws
+  returns c = path-refused _ _ _ _ (c .before .before .before .before .before .before .before .before .pre .1) (c .before .before .before .before .path-item .ensures) (c .enum-told .given .1)
 
   loop-holds : import-path-lts.Need-loop-holds told (import-path-at t) import-path.Post Inv-loop μ-loop
-  loop-holds c = omega (laws, done (c .before .r .given .1))
+  loop-holds c = λ i t b. b
 
   take-requires : import-path-lts.Need-take-requires told (import-path-at t) import-path.Post Inv-loop μ-loop
-  take-requires c κs = omega (laws, done (c .before .before .before .before .r .given .1), c .before .before .before .before .before .before .before .before .before .before)
+  take-requires c κs = search needs
+
+  import-group-requires : import-path-lts.Need-import-group-requires told (import-path-at t) import-path.Post Inv-loop μ-loop
+  import-group-requires c κs = (omega (arith, c .before .before .before .before .before .before .before .before .before .before .before .before .before .before .before .before .pre .0, path-onward _ _ _ _ (c .before .before .before .before .before .before .loop .inv _ _ (path-begins _ _ _ _ (c .before .before .before .before .before .before .before .before .before .before .before .before .before .before .before .before .pre .1) (c .before .before .before .before .before .before .before .before .before .before .before .before .path-item .ensures) (c .before .before .before .before .before .before .before .before .r .given .1))) (c .before .before .before .before .if1 .taken) (c .before .before .before .take .ensures)), (path-onward _ _ _ _ (c .before .before .before .before .before .before .loop .inv _ _ (path-begins _ _ _ _ (c .before .before .before .before .before .before .before .before .before .before .before .before .before .before .before .before .pre .1) (c .before .before .before .before .before .before .before .before .before .before .before .before .path-item .ensures) (c .before .before .before .before .before .before .before .before .r .given .1))) (c .before .before .before .before .if1 .taken) (c .before .before .before .take .ensures) .0, c .before .if2 .taken, path-onward _ _ _ _ (c .before .before .before .before .before .before .loop .inv _ _ (path-begins _ _ _ _ (c .before .before .before .before .before .before .before .before .before .before .before .before .before .before .before .before .pre .1) (c .before .before .before .before .before .before .before .before .before .before .before .before .path-item .ensures) (c .before .before .before .before .before .before .before .before .r .given .1))) (c .before .before .before .before .if1 .taken) (c .before .before .before .take .ensures) .1))
+
+  same-length-2 : import-path-lts.Need-same-length-2 told (import-path-at t) import-path.Post Inv-loop μ-loop
+  same-length-2 c = kept-either (path-grouped _ _ _ _ (c .before .before .before .before .before .before .before .before .before .loop .inv _ _ (path-begins _ _ _ _ (c .before .before .before .before .before .before .before .before .before .before .before .before .before .before .before .before .before .before .before .pre .1) (c .before .before .before .before .before .before .before .before .before .before .before .before .before .before .before .path-item .ensures) (c .before .before .before .before .before .before .before .before .before .before .before .r .given .1))) (c .before .before .before .before .before .before .before .if1 .taken) (c .before .before .before .before .before .before .take .ensures) (c .before .before .import-group .ensures))
+
+  returns-2 : import-path-lts.Need-returns-2 told (import-path-at t) import-path.Post Inv-loop μ-loop
+  returns-2 c = path-grouped _ _ _ _ (c .before .before .before .before .before .before .before .before .before .loop .inv _ _ (path-begins _ _ _ _ (c .before .before .before .before .before .before .before .before .before .before .before .before .before .before .before .before .before .before .before .pre .1) (c .before .before .before .before .before .before .before .before .before .before .before .before .before .before .before .path-item .ensures) (c .before .before .before .before .before .before .before .before .before .before .before .r .given .1))) (c .before .before .before .before .before .before .before .if1 .taken) (c .before .before .before .before .before .before .take .ensures) (c .before .before .import-group .ensures)
+
+  is-path-item-requires : import-path-lts.Need-is-path-item-requires told (import-path-at t) import-path.Post Inv-loop μ-loop
+  is-path-item-requires c κs = search needs
+
+  unusable-requires : import-path-lts.Need-unusable-requires told (import-path-at t) import-path.Post Inv-loop μ-loop
+  unusable-requires c κs = search needs
+
+  same-length-3 : import-path-lts.Need-same-length-3 told (import-path-at t) import-path.Post Inv-loop μ-loop
+  same-length-3 c = kept-either (path-neither _ _ _ _ (c .before .before .before .before .before .before .before .before .loop .inv _ _ (path-begins _ _ _ _ (c .before .before .before .before .before .before .before .before .before .before .before .before .before .before .before .before .before .before .pre .1) (c .before .before .before .before .before .before .before .before .before .before .before .before .before .before .path-item .ensures) (c .before .before .before .before .before .before .before .before .before .before .r .given .1))) (c .before .before .before .before .before .before .if1 .taken) (c .before .before .before .before .before .take .ensures) (c .before .before .before .if2 .left) (false-so (c .before .before .is-path-item .ensures) (not-true _ (c .before .if3 .taken))) (c .unusable .ensures))
+
+  returns-3 : import-path-lts.Need-returns-3 told (import-path-at t) import-path.Post Inv-loop μ-loop
+  returns-3 c = path-neither _ _ _ _ (c .before .before .before .before .before .before .before .before .loop .inv _ _ (path-begins _ _ _ _ (c .before .before .before .before .before .before .before .before .before .before .before .before .before .before .before .before .before .before .pre .1) (c .before .before .before .before .before .before .before .before .before .before .before .before .before .before .path-item .ensures) (c .before .before .before .before .before .before .before .before .before .before .r .given .1))) (c .before .before .before .before .before .before .if1 .taken) (c .before .before .before .before .before .take .ensures) (c .before .before .before .if2 .left) (false-so (c .before .before .is-path-item .ensures) (not-true _ (c .before .if3 .taken))) (c .unusable .ensures)
+
+  path-item-requires-2 : import-path-lts.Need-path-item-requires-2 told (import-path-at t) import-path.Post Inv-loop μ-loop
+  path-item-requires-2 c κs = path-onward _ _ _ _ (c .before .before .before .before .before .before .before .before .loop .inv _ _ (path-begins _ _ _ _ (c .before .before .before .before .before .before .before .before .before .before .before .before .before .before .before .before .before .before .pre .1) (c .before .before .before .before .before .before .before .before .before .before .before .before .before .before .path-item .ensures) (c .before .before .before .before .before .before .before .before .before .before .r .given .1))) (c .before .before .before .before .before .before .if1 .taken) (c .before .before .before .before .before .take .ensures) .0
 
   enum-known-r-2 : import-path-lts.Need-enum-known-r-2 told (import-path-at t) import-path.Post Inv-loop μ-loop
   enum-known-r-2 c = search needs
@@ -48,53 +79,32 @@ module _ (t : ℕ) where
   enum-told-2 : import-path-lts.Need-enum-told-2 told (import-path-at t) import-path.Post Inv-loop μ-loop
   enum-told-2 c = search needs
 
-  same-length-2 : import-path-lts.Need-same-length-2 told (import-path-at t) import-path.Post Inv-loop μ-loop
-  same-length-2 c = omega (laws, done (c .before .before .before .before .before .before .before .r .given .1), c .before .before .before .before .before .before .before .before .before .before)
-
-  returns-2 : import-path-lts.Need-returns-2 told (import-path-at t) import-path.Post Inv-loop μ-loop
-  returns-2 c = omega (laws, done (c .before .before .before .before .before .before .before .r .given .1), c .before .before .before .before .before .before .before .before .before .before)
-
-  import-group-requires : import-path-lts.Need-import-group-requires told (import-path-at t) import-path.Post Inv-loop μ-loop
-  import-group-requires c κs = omega (laws, done (c .before .before .before .before .r2 .given .1), done (c .before .before .before .before .before .before .before .before .before .before .before .r .given .1), c .before .before .before .before .before .before .before .before .before .before)
-
-  same-length-3 : import-path-lts.Need-same-length-3 told (import-path-at t) import-path.Post Inv-loop μ-loop
-  same-length-3 c = omega (laws, done (c .before .before .before .before .before .before .before .r2 .given .1), done (c .before .before .before .before .before .before .before .before .before .before .before .before .before .before .r .given .1), c .before .before .before .before .before .before .before .before .before .before, c .before .before .before .before .before .before .before .before .before .before .before .before .before .before .before .before .before .before .before .before)
-
-  returns-3 : import-path-lts.Need-returns-3 told (import-path-at t) import-path.Post Inv-loop μ-loop
-  returns-3 c = omega (laws, done (c .before .before .before .before .before .before .before .r2 .given .1), done (c .before .before .before .before .before .before .before .before .before .before .before .before .before .before .r .given .1), c .before .before .before .before .before .before .before .before .before .before, c .before .before .before .before .before .before .before .before .before .before .before .before .before .before .before .before .before .before .before .before)
-
-  path-item-requires-2 : import-path-lts.Need-path-item-requires-2 told (import-path-at t) import-path.Post Inv-loop μ-loop
-  path-item-requires-2 c κs = omega (laws, done (c .before .before .before .before .r2 .given .1), done (c .before .before .before .before .before .before .before .before .before .before .before .r .given .1), c .before .before .before .before .before .before .before .before .before .before)
-
-  enum-known-r-3 : import-path-lts.Need-enum-known-r-3 told (import-path-at t) import-path.Post Inv-loop μ-loop
-  enum-known-r-3 c = search needs
-
-  enum-told-3 : import-path-lts.Need-enum-told-3 told (import-path-at t) import-path.Post Inv-loop μ-loop
-  enum-told-3 c = search needs
-
   same-length-4 : import-path-lts.Need-same-length-4 told (import-path-at t) import-path.Post Inv-loop μ-loop
-  same-length-4 c = omega (laws, done (c .before .before .before .before .before .before .before .before .before .r2 .given .1), done (c .before .before .before .before .before .before .before .before .before .before .before .before .before .before .before .before .r .given .1), c .before .before .before .before .before .before .before .before .before .before, c .before .before .before .before .before .before .before .before .before .before .before .before .before .before .before .before .before .before .before .before)
+  same-length-4 c = kept-either (path-fails _ _ _ _ (c .before .before .before .before .before .before .before .before .before .before .before .before .before .loop .inv _ _ (path-begins _ _ _ _ (c .before .before .before .before .before .before .before .before .before .before .before .before .before .before .before .before .before .before .before .before .before .before .before .pre .1) (c .before .before .before .before .before .before .before .before .before .before .before .before .before .before .before .before .before .before .before .path-item .ensures) (c .before .before .before .before .before .before .before .before .before .before .before .before .before .before .before .r .given .1))) (c .before .before .before .before .before .before .before .before .before .before .before .if1 .taken) (c .before .before .before .before .before .before .before .before .before .before .take .ensures) (true-so (c .before .before .before .before .before .before .before .is-path-item .ensures) (not-false _ (c .before .before .before .before .before .before .if3 .left))) (c .before .before .before .before .path-item2 .ensures) (c .enum-told2 .given .1))
 
   returns-4 : import-path-lts.Need-returns-4 told (import-path-at t) import-path.Post Inv-loop μ-loop
-  returns-4 c = omega (laws, done (c .before .before .before .before .before .before .before .before .before .r2 .given .1), done (c .before .before .before .before .before .before .before .before .before .before .before .before .before .before .before .before .r .given .1), c .before .before .before .before .before .before .before .before .before .before, c .before .before .before .before .before .before .before .before .before .before .before .before .before .before .before .before .before .before .before .before)
+  returns-4 c = path-fails _ _ _ _ (c .before .before .before .before .before .before .before .before .before .before .before .before .before .loop .inv _ _ (path-begins _ _ _ _ (c .before .before .before .before .before .before .before .before .before .before .before .before .before .before .before .before .before .before .before .before .before .before .before .pre .1) (c .before .before .before .before .before .before .before .before .before .before .before .before .before .before .before .before .before .before .before .path-item .ensures) (c .before .before .before .before .before .before .before .before .before .before .before .before .before .before .before .r .given .1))) (c .before .before .before .before .before .before .before .before .before .before .before .if1 .taken) (c .before .before .before .before .before .before .before .before .before .before .take .ensures) (true-so (c .before .before .before .before .before .before .before .is-path-item .ensures) (not-false _ (c .before .before .before .before .before .before .if3 .left))) (c .before .before .before .before .path-item2 .ensures) (c .enum-told2 .given .1)
 
   add-children : import-path-lts.Need-add-children told (import-path-at t) import-path.Post Inv-loop μ-loop
-  add-children c = omega (laws, done (c .before .r3 .given .1), done (c .before .before .before .before .before .before .before .before .before .before .r2 .given .1), done (c .before .before .before .before .before .before .before .before .before .before .before .before .before .before .before .before .before .r .given .1), c .before .before .before .before .before .before .before .before .before .before, c .before .before .before .before .before .before .before .before .before .before .before .before .before .before .before .before .before .before .before .before)
+  add-children c = omega (arith, few-rows ((c .before .before .before .before .before .before .before .before .before .before .before .before .before .before .loop .inv _ _ (path-begins _ _ _ _ (c .before .before .before .before .before .before .before .before .before .before .before .before .before .before .before .before .before .before .before .before .before .before .before .before .pre .1) (c .before .before .before .before .before .before .before .before .before .before .before .before .before .before .before .before .before .before .before .before .path-item .ensures) (c .before .before .before .before .before .before .before .before .before .before .before .before .before .before .before .before .r .given .1))) .going))
 
   loop-less : import-path-lts.Need-loop-less told (import-path-at t) import-path.Post Inv-loop μ-loop
-  loop-less c = omega (laws, done (c .before .r3 .given .1), done (c .before .before .before .before .before .before .before .before .before .before .r2 .given .1), done (c .before .before .before .before .before .before .before .before .before .before .before .before .before .before .before .before .before .r .given .1), c .before .before .before .before .before .before .before .before .before .before, c .before .before .before .before .before .before .before .before .before .before .before .before .before .before .before .before .before .before .before .before)
+  loop-less c = omega (arith, path-onward _ _ _ _ (c .before .before .before .before .before .before .before .before .before .before .before .before .before .before .loop .inv _ _ (path-begins _ _ _ _ (c .before .before .before .before .before .before .before .before .before .before .before .before .before .before .before .before .before .before .before .before .before .before .before .before .pre .1) (c .before .before .before .before .before .before .before .before .before .before .before .before .before .before .before .before .before .before .before .before .path-item .ensures) (c .before .before .before .before .before .before .before .before .before .before .before .before .before .before .before .before .r .given .1))) (c .before .before .before .before .before .before .before .before .before .before .before .before .if1 .taken) (c .before .before .before .before .before .before .before .before .before .before .before .take .ensures), further (c .before .before .before .before .before .path-item2 .ensures zeros) (c .before .r2 .given .1) .next)
 
   loop-again : import-path-lts.Need-loop-again told (import-path-at t) import-path.Post Inv-loop μ-loop
-  loop-again c = omega (laws, done (c .before .r3 .given .1), done (c .before .before .before .before .before .before .before .before .before .before .r2 .given .1), done (c .before .before .before .before .before .before .before .before .before .before .before .before .before .before .before .before .before .r .given .1), c .before .before .before .before .before .before .before .before .before .before, c .before .before .before .before .before .before .before .before .before .before .before .before .before .before .before .before .before .before .before .before)
+  loop-again c = λ i t b. path-more _ _ _ _ (c .before .before .before .before .before .before .before .before .before .before .before .before .before .before .loop .inv i t b) (c .before .before .before .before .before .before .before .before .before .before .before .before .if1 .taken) (c .before .before .before .before .before .before .before .before .before .before .before .take .ensures) (true-so (c .before .before .before .before .before .before .before .before .is-path-item .ensures) (not-false _ (c .before .before .before .before .before .before .before .if3 .left))) (c .before .before .before .before .before .path-item2 .ensures) (c .before .r2 .given .1)
+
+  plain-row-requires : import-path-lts.Need-plain-row-requires told (import-path-at t) import-path.Post Inv-loop μ-loop
+  plain-row-requires c κs = search needs
 
   finish-requires : import-path-lts.Need-finish-requires told (import-path-at t) import-path.Post Inv-loop μ-loop
-  finish-requires c κs = omega (laws, done (c .before .before .before .before .before .r .given .1), c .before .before .before .before .before .before .before .before .before .before)
+  finish-requires c κs = search needs
 
   same-length-5 : import-path-lts.Need-same-length-5 told (import-path-at t) import-path.Post Inv-loop μ-loop
-  same-length-5 c = omega (laws, done (c .before .before .before .before .before .before .before .before .r .given .1), c .before .before .before .before .before .before .before .before .before .before)
+  same-length-5 c = kept-either (path-ends _ _ _ _ (c .before .before .before .before .before .before .before .loop .inv _ _ (path-begins _ _ _ _ (c .before .before .before .before .before .before .before .before .before .before .before .before .before .before .before .before .before .pre .1) (c .before .before .before .before .before .before .before .before .before .before .before .before .before .path-item .ensures) (c .before .before .before .before .before .before .before .before .before .r .given .1))) (c .before .before .before .before .before .if1 .left) (c .before .before .before .plain-row .ensures) (c .before .before .finish .ensures))
 
   returns-5 : import-path-lts.Need-returns-5 told (import-path-at t) import-path.Post Inv-loop μ-loop
-  returns-5 c = omega (laws, done (c .before .before .before .before .before .before .before .before .r .given .1), c .before .before .before .before .before .before .before .before .before .before)
+  returns-5 c = path-ends _ _ _ _ (c .before .before .before .before .before .before .before .loop .inv _ _ (path-begins _ _ _ _ (c .before .before .before .before .before .before .before .before .before .before .before .before .before .before .before .before .before .pre .1) (c .before .before .before .before .before .before .before .before .before .before .before .before .before .path-item .ensures) (c .before .before .before .before .before .before .before .before .before .r .given .1))) (c .before .before .before .before .before .if1 .left) (c .before .before .before .plain-row .ensures) (c .before .before .finish .ensures)
 
   pub import-path-closed : {M : Type 1} → import-path-lts.Closed told (import-path-at t) import-path.Post M
-  import-path-closed = import-path-lts.spec told (import-path-at t) import-path.Post Inv-loop μ-loop path-item-requires enum-known-r enum-told same-length returns loop-holds take-requires enum-known-r-2 enum-told-2 same-length-2 returns-2 import-group-requires same-length-3 returns-3 path-item-requires-2 enum-known-r-3 enum-told-3 same-length-4 returns-4 add-children loop-less loop-again finish-requires same-length-5 returns-5
+  import-path-closed = import-path-lts.spec told (import-path-at t) import-path.Post Inv-loop μ-loop path-item-requires enum-known-r enum-told same-length returns loop-holds take-requires import-group-requires same-length-2 returns-2 is-path-item-requires unusable-requires same-length-3 returns-3 path-item-requires-2 enum-known-r-2 enum-told-2 same-length-4 returns-4 add-children loop-less loop-again plain-row-requires finish-requires same-length-5 returns-5

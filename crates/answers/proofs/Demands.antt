@@ -1,0 +1,110 @@
+-- Demands 1 and 3 hold.
+use mathlib.Core.Path.{_≡_, refl, sym, ap, subst, _∙_}
+use mathlib.Core.List.{List, _++_}
+use mathlib.Core.Bool.{Bool, true, false, _&&_, _||_}
+use mathlib.Core.Logic.{_⊎_, inl, inr, _≢_}
+use Prim.Native.Nat.{ℕ, _+_, _-_, _*_, _≤_}
+use lib.Dec.{T, eqb, leb, leb→le, le→leb, eqb→eq}
+use lib.ListN.{length, replicate}
+use native.Mathlib.Omega.{arith}
+use Rattle.chars.specs.declared.Class.the-variants.{Ascii}
+use Rattle.chars.specs.Chars.{pick, isClass}
+use Rattle.chars.specs.Runs.{pastRun}
+use Rattle.tokens.specs.declared.Refusal.{Refusal}
+use Rattle.tokens.specs.declared.Answer.{Answer}
+use Rattle.tokens.specs.declared.Whole.{Whole}
+use Rattle.tokens.specs.declared.Whole.the-variants.{Fine, Refused as Bad}
+use Rattle.tokens.specs.Rules.{pairAt}
+use Rattle.tokens.specs.Tokens.{wholeOf, counted}
+use Rattle.grammar.specs.Grammar.{Parts}
+use Rattle.grammar.specs.Rows.{width, flat, nodes}
+use Rattle.grammar.specs.Answers.{accepted, accepts, stops, leaves}
+use Rattle.grammar.proofs.Bools.{T→eq, and-l, and-r, or-cases}
+use Rattle.grammar.proofs.Demand.{is-refusal, refused-number, the-reading, row-count}
+use Rattle.answers.specs.Source.{source}
+use Rattle.answers.specs.Entries.{room, answerFor, tableFor, Permitted, early, read}
+use Rattle.answers.specs.Demands.{Reading, rowsOf, itself, Demand1, Demand3}
+use Rattle.answers.proofs.Scans.{look-number}
+use Rattle.answers.proofs.Determined.{one-permitted, accepted-reads, reading-accepted}
+use Rattle.answers.proofs.Bytes.{a-permitted}
+
+-- 1, 2 and 3
+data Tested : Whole → Type 0 where
+  tested-fine : Tested Fine
+  tested-bad : {r : Refusal} → r .number ≤ 3 → Tested (Bad r)
+
+tested-pick : (b : Bool) {x d : Whole} → Tested x → Tested d → Tested (pick b x d)
+tested-pick true h k = h
+tested-pick false h k = k
+
+tested-whole : (s : List ℕ) → Tested (wholeOf s)
+unfolding wholeOf
+tested-whole s =
+    let high : ℕ = pastRun (isClass Ascii) s 0 in
+    tested-pick (lib.Dec.ltb 65535 (length s)) (tested-bad (omega arith))
+    (tested-pick (lib.Dec.ltb high (length s)) (tested-bad (omega arith))
+    (tested-pick (pairAt s 0 35 33) (tested-bad (omega arith))
+    tested-fine))
+
+whole-number : (s : List ℕ) (r : Refusal) → wholeOf s ≡ Bad r → r .number ≤ 3
+whole-number s r e = go (wholeOf s) (tested-whole s) e
+  where
+    go : (w : Whole) → Tested w → w ≡ Bad r → r .number ≤ 3
+    go Fine h q = let z : _≡_ {A = ℕ} 0 1 = cc in absurd (omega arith)
+    go (Bad r′) (tested-bad h) q = let k : r′ ≡ r = cc in subst (λ (x : Refusal). x .number ≤ 3) k h
+
+-- 4 to 9 and 11
+refusal-small : (n : ℕ) → T (is-refusal n) → n ≤ 11
+refusal-small n h = elim (or-cases (leb n 9) (eqb n 11) (and-r (leb 4 n) (leb n 9 || eqb n 11) h)) [
+  | inl k ↦ (let x = leb→le n 9 k in omega arith)
+  | inr k ↦ (let x = eqb→eq n 11 k in omega arith)
+]
+
+module _ (tests tree : Bool) (s : List ℕ) (size : ℕ) where
+  counted-number : (n k : ℕ) → (counted (length s) n k) .number ≤ 11
+  counted-number n k = go (leb n k)
+    where
+      go : (b : Bool) → (pick {A = Answer} b (record { number = 0; start = 0; end = length s; count = n }) (record { number = 10; start = 0; end = 0; count = n })) .number ≤ 11
+      go true = omega arith
+      go false = omega arith
+
+  small : {a : Answer} {t : List ℕ} → Permitted tests tree s size a t → a .number ≤ 11
+  small (early {r = r} e) = let h = whole-number s r e in omega arith
+  small (read e (accepts {p = p} x)) = counted-number (length (rowsOf tree s p)) (room size)
+  small (read e (stops {z = z} {y = y} f)) = refusal-small _ (refused-number (source s) tests tree (length s) (look-number s) _ (stops f) refl)
+  small (read e (leaves u h)) = refusal-small _ (refused-number (source s) tests tree (length s) (look-number s) _ (leaves u h) refl)
+
+  zeros : {a : Answer} {t : List ℕ} → Permitted tests tree s size a t → a .number ≢ 0 → t ≡ replicate size 0
+  zeros (early e) n = refl
+  zeros (read e (accepts {p = p} x)) n = go (leb (length (rowsOf tree s p)) (room size)) n
+    where
+      k : ℕ
+      k = length (rowsOf tree s p)
+
+      full : List ℕ
+      full = flat (rowsOf tree s p) ++ replicate (size - width * k) 0
+
+      go : (b : Bool) → (pick {A = Answer} b (record { number = 0; start = 0; end = length s; count = k }) (record { number = 10; start = 0; end = 0; count = k })) .number ≢ 0 → pick b full (replicate size 0) ≡ replicate size 0
+      go true m = absurd (m refl)
+      go false m = refl
+  zeros (read e (stops f)) n = refl
+  zeros (read e (leaves u h)) n = refl
+
+  pub demand-1 : Demand1 tests tree s size
+  demand-1 = record { some-answer = a-permitted tests tree s size; no-other = one-permitted tests tree s size; in-the-table = small; refused-zeros = zeros }
+
+  fits : (n k : ℕ) → n ≤ k → (counted (length s) n k) .number ≡ 0
+  fits n k h = ap (λ (b : Bool). (pick {A = Answer} b (record { number = 0; start = 0; end = length s; count = n }) (record { number = 10; start = 0; end = 0; count = n })) .number) (T→eq (leb n k) (le→leb n k h))
+
+  pub demand-3 : Demand3 tests tree s size
+  demand-3 = record {
+    only-readings = λ x e. let k = accepted-reads tests tree s size x e in (k .parts, k .text);
+    all-readings = λ {a} {t} {p} x e r h. ap (λ (q : Answer). q .number) (one-permitted tests tree s size x (reading-accepted tests tree s size e r) .0) ∙ fits (length (rowsOf tree s p)) (room size) h;
+    one-reading = the-reading (source s) tests tree;
+    its-table = λ {a} {t} {p} x e r. let k = accepted-reads tests tree s size x e in k .table ∙ ap (λ (q : Parts). flat (rowsOf tree s q) ++ replicate (size - width * length (rowsOf tree s q)) 0) (the-reading (source s) tests tree (k .text) r);
+    its-count = λ {a} {t} {p} x e r. let k = accepted-reads tests tree s size x e in ap (λ (q : Answer). q .count) (k .answer) ∙ ap (λ (q : Parts). length (rowsOf tree s q)) (the-reading (source s) tests tree (k .text) r) ∙ row-count (source s) tests tree (length s) p ∙ ap (λ (n : ℕ). nodes p + n) (same tree);
+  }
+    where
+      same : (b : Bool) → Rattle.grammar.proofs.Count.tree-nodes b ≡ itself b
+      same true = refl
+      same false = refl

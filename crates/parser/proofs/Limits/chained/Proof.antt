@@ -1,0 +1,16 @@
+use mathlib.Core.Path.{ap}
+use borrow.Author.Needs.{needs}
+use Rattle.parser.proofs.Limits.chained.Statement.{statement}
+use Rattle.parser.proofs.Limits.chained.Tie as tie
+use Rattle.parser.proofs.Limits.chained.Reads as reads
+use Rattle.parser.proofs.Limits.chained.Lts as lts
+use Rattle.parser.proofs.one_more.Reads as one-more-reads
+
+one-more-requires : tie.Need-one-more-requires
+one-more-requires c κs = search needs
+
+returns : tie.Need-returns
+returns c = ap (λ n. record { brackets = c .before .args .self .brackets; signs = 0; chain = n; heads = c .before .args .self .heads }) (c .one-more .ensures)
+
+pub chained-spec : {M : Type 1} → statement M
+chained-spec = tie.close (tie.spec one-more-requires returns)

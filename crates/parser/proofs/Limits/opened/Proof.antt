@@ -1,0 +1,16 @@
+use mathlib.Core.Path.{ap}
+use borrow.Author.Needs.{needs}
+use Rattle.parser.proofs.Limits.opened.Statement.{statement}
+use Rattle.parser.proofs.Limits.opened.Tie as tie
+use Rattle.parser.proofs.Limits.opened.Reads as reads
+use Rattle.parser.proofs.Limits.opened.Lts as lts
+use Rattle.parser.proofs.one_more.Reads as one-more-reads
+
+one-more-requires : tie.Need-one-more-requires
+one-more-requires c κs = search needs
+
+returns : tie.Need-returns
+returns c = ap (λ n. record { brackets = n; signs = 0; chain = c .before .args .self .chain; heads = c .before .args .self .heads }) (c .one-more .ensures)
+
+pub opened-spec : {M : Type 1} → statement M
+opened-spec = tie.close (tie.spec one-more-requires returns)

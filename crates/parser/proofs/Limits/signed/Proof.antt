@@ -1,0 +1,16 @@
+use mathlib.Core.Path.{ap}
+use borrow.Author.Needs.{needs}
+use Rattle.parser.proofs.Limits.signed.Statement.{statement}
+use Rattle.parser.proofs.Limits.signed.Tie as tie
+use Rattle.parser.proofs.Limits.signed.Reads as reads
+use Rattle.parser.proofs.Limits.signed.Lts as lts
+use Rattle.parser.proofs.one_more.Reads as one-more-reads
+
+one-more-requires : tie.Need-one-more-requires
+one-more-requires c κs = search needs
+
+returns : tie.Need-returns
+returns c = ap (λ n. record { brackets = c .before .args .self .brackets; signs = n; chain = c .before .args .self .chain; heads = c .before .args .self .heads }) (c .one-more .ensures)
+
+pub signed-spec : {M : Type 1} → statement M
+signed-spec = tie.close (tie.spec one-more-requires returns)

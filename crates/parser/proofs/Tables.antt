@@ -1,0 +1,44 @@
+-- Stores into the table: one law for them all.
+use mathlib.Core.Path.{_≡_, refl, sym, ap, _∙_}
+use mathlib.Core.List.{List, [], _∷_, _++_}
+use mathlib.Core.Bool.{Bool, true, false}
+use Prim.Native.Nat.{ℕ, _+_, _*_}
+use lib.Dec.{ltb}
+use lib.ListN.{length, set, length-set}
+use native.Mathlib.Omega.{arith}
+use Rattle.rows.specs.declared.Row.{Row}
+use Rattle.rows.specs.Rows.{either, room, written, putRow}
+use Rattle.grammar.specs.Rows as grammar
+use Rattle.parser.specs.Going.{asRow, store}
+
+pub store-append : (t : List ℕ) (n : ℕ) (a b : List grammar.Row) → store t n (a ++ b) ≡ store (store t n a) (n + length a) b
+unfolding store
+store-append t n [] b = ap (λ (k : ℕ). store t k b) (omega arith)
+store-append t n (r ∷ a) b = store-append (putRow t n (asRow r)) (n + 1) a b ∙ ap (λ (k : ℕ). store (store (putRow t n (asRow r)) (n + 1) a) k b) (omega arith)
+
+-- one row more
+pub store-row : (t : List ℕ) (n : ℕ) (a : List grammar.Row) (r : grammar.Row) → store t n (a ++ (r ∷ [])) ≡ putRow (store t n a) (n + length a) (asRow r)
+unfolding store
+store-row t n a r = store-append t n a (r ∷ [])
+
+put-length : (t : List ℕ) (n : ℕ) (r : Row) → length (putRow t n r) ≡ length t
+unfolding putRow
+put-length t n r = go (ltb n (room t))
+  where
+    six : (i : ℕ) → length (written t i r) ≡ length t
+    six i =
+        length-set (set (set (set (set (set t i (r .kind)) (i + 1) (r .start)) (i + 2) (r .end)) (i + 3) (r .children)) (i + 4) (r .value)) (i + 5) (r .detail)
+        ∙ length-set (set (set (set (set t i (r .kind)) (i + 1) (r .start)) (i + 2) (r .end)) (i + 3) (r .children)) (i + 4) (r .value)
+        ∙ length-set (set (set (set t i (r .kind)) (i + 1) (r .start)) (i + 2) (r .end)) (i + 3) (r .children)
+        ∙ length-set (set (set t i (r .kind)) (i + 1) (r .start)) (i + 2) (r .end)
+        ∙ length-set (set t i (r .kind)) (i + 1) (r .start)
+        ∙ length-set t i (r .kind)
+
+    go : (b : Bool) → length (either b (written t (n * 6) r) t) ≡ length t
+    go true = six (n * 6)
+    go false = refl
+
+pub store-length : (t : List ℕ) (n : ℕ) (a : List grammar.Row) → length (store t n a) ≡ length t
+unfolding store
+store-length t n [] = refl
+store-length t n (r ∷ a) = store-length (putRow t n (asRow r)) (n + 1) a ∙ put-length t n (asRow r)

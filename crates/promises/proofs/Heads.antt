@@ -1,0 +1,236 @@
+-- `if`, `while`, `for` and `match`: their heads, and what stands behind an `if`.
+use mathlib.Core.Path.{_≡_, refl, sym, ap, subst, _∙_}
+use mathlib.Core.List.{List, [], _∷_}
+use mathlib.Core.Bool.{false, _&&_}
+use mathlib.Core.Option.{some}
+use mathlib.Core.Logic.{_≢_}
+use Prim.Native.Nat.{ℕ, _+_, _≤_, _<_}
+use lib.Dec.{T, eqb, ltb, lt→ltb, ltb→lt, not-T}
+use native.Mathlib.Omega.{arith}
+use Rattle.tokens.specs.declared.Refusal.{Refusal}
+use Rattle.rows.specs.declared.Row.{Row}
+use Rattle.rows.specs.Rows.{putRow}
+use Rattle.grammar.specs.Words.{open-brace, close-brace, 'in'}
+use Rattle.grammar.specs.Grammar.{plain, is-head, is-else-if, opens-bracket, body, Scope, Symbol, phrase, one-of}
+use Rattle.grammar.specs.Limits.{Counts, after, inside, kept}
+use Rattle.grammar.specs.Table.{a, behind, closes, head, word, row, opens, rest-kinds, literal-row}
+use Rattle.grammar.specs.Kinds.{no-records, NAME, BLOCK, FOUR, ELSE, ELSE-PART, ELSE-IF, ARMS, EXPR}
+use Rattle.grammar.proofs.Bools.{and-l, and-r, both}
+use Rattle.grammar.proofs.Open.{Left}
+use Rattle.parser.specs.declared.Here.{Here}
+use Rattle.parser.specs.declared.Limits.{Limits}
+use Rattle.parser.specs.declared.Node.{Node}
+use Rattle.parser.specs.declared.Read.{Read}
+use Rattle.parser.specs.declared.Read.the-variants.{Done, Refused}
+use Rattle.parser.specs.Places.{passed, later, unused, refusalAt, nodeOf, plainRow, expected, under, opening}
+use Rattle.parser.specs.Counted.{counts, headed, chained, unchained, opened, plain as plainly, Alike}
+use Rattle.parser.specs.Going.{Stands, Tally, bare, many, withNode, rowOver, Phrase, Going, Stopped, Answers}
+use Rattle.parser.proofs.Standing.{solid, past-word, is-word, the-word}
+use Rattle.parser.proofs.Going.{at, takes, out, reads-one, refuses-in, refuses-past, relays, whole-of, stopped-of, stopped, fewer}
+use Rattle.parser.proofs.Picks.{On, begins-on, begins-any, into-on, into-off, refuses-off}
+use Rattle.parser.proofs.Steps.{under-done, under-refused, counts-plain, counts-headed, counts-body, counts-chained, counts-chain-body, counts-same, counts-opened, alike-counts, expects, misses, opens-on, opens-off, opening-done}
+use Rattle.promises.specs.Promises.{the, Anyhow, Partly, Chained, Elsed, Matched}
+use Rattle.promises.proofs.Alternatives.{four-off, else-on, else-off, elses-off, else-if-any, else-if-is}
+use Rattle.promises.proofs.Answered.{of-text, none-fits, not-first, finished}
+use Rattle.promises.proofs.Partly.{partly, partly-of, partly-stops, partly-stopped}
+
+-- a phrase in it, by the answer of its reader
+module _ {f : Phrase} {s : List ℕ} {d d′ : Counts} {ks : List Left} {h : Here} {t t′ : List ℕ} {y : Tally} {v k : ℕ} {ss : List Symbol} {o : Scope} {n j : ℕ} {r : Read} (q : f .text ≡ s) (e : inside o d ≡ d′) (u : Answers (the s d′ n h t) j r t′) where
+  pub reads-it : {m : Node} {h′ : Here} → Going f (at d (phrase o n ∷ ss) ∷ ks) h t y v k → one-of n rest-kinds ≡ false → r ≡ Done m h′ → Going f (at d ss ∷ ks) h′ t′ (withNode y m) v (k + j)
+  reads-it g z p = reads-one g z refl (whole-of (of-text f q e u) p)
+
+  pub refuses-it : {x : Refusal} → Going f (at d (phrase o n ∷ ss) ∷ ks) h t y v k → r ≡ Refused x → Stopped f x t′
+  refuses-it g p = refuses-in g refl (stopped-of (of-text f q e u) p)
+
+-- either way
+pub reads-partly : {f : Phrase} {s : List ℕ} {d d′ : Counts} {ks : List Left} {h : Here} {t t′ : List ℕ} {y : Tally} {v k : ℕ} {ss : List Symbol} {o : Scope} {n j : ℕ} {r : Read} → f .text ≡ s → inside o d ≡ d′ → Answers (the s d′ n h t) j r t′ → Going f (at d (phrase o n ∷ ss) ∷ ks) h t y v k → one-of n rest-kinds ≡ false → Partly f r t′ (λ m h′. Going f (at d ss ∷ ks) h′ t′ (withNode y m) v (k + j))
+reads-partly {f} {s} {d} {d′} {ks} {h} {t} {t′} {y} {v} {k} {ss} {n = n} {j = j} {r = r} q e u g z = go r u
+  where
+    go : (r : Read) → Answers (the s d′ n h t) j r t′ → Partly f r t′ (λ m h′. Going f (at d ss ∷ ks) h′ t′ (withNode y m) v (k + j))
+    go (Done m h′) u = partly refl (reads-it q e u g z refl)
+    go (Refused x) u = partly-stops refl (refuses-it q e u g refl)
+
+-- the counts behind a plain token
+pub counts-behind : {d : Counts} {l l′ : Limits} → d ≡ counts l → l′ ≡ plainly l → after plain d ≡ counts l′
+counts-behind {l = l} e p = ap (after plain) e ∙ counts-plain l ∙ ap counts (sym p)
+
+-- where the reader stands behind a head's word, and behind a bracket
+pub under-past : (w n : ℕ) {s : List ℕ} {h : Here} {r : Read} {m : Node} {z : Here} → Stands s h → T (solid (w ∷ [])) → h .word ≡ w → r ≡ under s h n → r ≡ Done m z → Stands s z × (h .next < z .next)
+under-past w n {s} {h} g o e u q = let k = past-word (w ∷ []) g o (is-word e) (under-done s h n u q .1 .here) in (k .0, k .1)
+
+pub opening-past : (w n : ℕ) {s : List ℕ} {h : Here} {r : Read} {m : Node} {z : Here} → Stands s h → T (solid (w ∷ [])) → r ≡ opening s h w n → r ≡ Done m z → Stands s z × (h .next < z .next)
+opening-past w n {s} {h} g o u q = let x = opening-done s h w n u q in let k = past-word (w ∷ []) g o (is-word (x .0)) (x .2 .here) in (k .0, k .1)
+
+-- behind a head, with c rows: the counts of its expr and of its body
+pub record Head (f : Phrase) (l : Limits) (ss : List Symbol) (h : Here) (t : List ℕ) (start c : ℕ) : Type 0 where
+  pub at-counts : Counts
+  pub end : ℕ
+  pub sign : ℕ
+  pub headed-so : at-counts ≡ counts (headed l)
+  pub body-so : inside body at-counts ≡ counts l
+  pub going : Going f (at at-counts ss ∷ []) h t (many start end c (some sign)) 0 4
+
+pub head-stands : {f : Phrase} {l : Limits} {ss : List Symbol} {h : Here} {t : List ℕ} {x c : ℕ} → Head f l ss h t x c → Stands (f .text) h × (f .from .next < h .next)
+head-stands b = let c = b .going .counted in let p = b .going .spares in (b .going .stands, omega (arith, c, p))
+
+-- the word of a head: 32 at most are open, or it is refused
+module _ {s : List ℕ} {h : Here} {t : List ℕ} {l l′ : Limits} (g : Stands s h) (p : l′ ≡ unchained l) {r : Read} (u : r ≡ under s h (l′ .heads)) where
+  module _ {w : ℕ} {ss : List Symbol} (o : On FOUR (some (head w ∷ ss)) (w ∷ [])) (z : T (solid (w ∷ []))) (e : h .word ≡ w) where
+    pub head-on : {m : Node} {i : Here} → r ≡ Done m i → Head (the s (counts l) FOUR h t) l′ ss i t (m .start) 0
+    unfolding kept
+    head-on {m} {i} q =
+        let k = under-done s h (l′ .heads) u q in
+        let b = k .0 in
+        let c : l′ .heads ≡ l .heads = ap (λ (x : Limits). x .heads) p in
+        let small : l .heads < 32 = omega (arith, b, c) in
+        record {
+          at-counts = after is-head (counts l);
+          end = h .end;
+          sign = h .word;
+          headed-so = counts-headed l small ∙ ap (λ (x : Limits). counts (headed x)) (sym p);
+          body-so = counts-body l ∙ ap counts (sym p);
+          going = subst (λ (x : Node). Going (the s (counts l) FOUR h t) (at (after is-head (counts l)) ss ∷ []) i t (many (x .start) (h .end) 0 (some (h .word))) 0 4) (k .1 .node) (takes (begins-on o g (is-word e)) z (is-word e) (lt→ltb (l .heads) 32 small) (k .1 .here));
+        }
+
+    pub head-off : {x : Refusal} → r ≡ Refused x → Answers (the s (counts l) FOUR h t) 1 r t
+    unfolding kept
+    head-off q =
+        let k = under-refused s h (l′ .heads) u q in
+        let c : l′ .heads ≡ l .heads = ap (λ (x : Limits). x .heads) p in
+        stopped q (subst (λ (y : Refusal). Stopped (the s (counts l) FOUR h t) y t) (k .1) (refuses-past (begins-on o g (is-word e)) z (is-word e) (not-T (ltb (l .heads) 32) (λ y. k .0 (let b = ltb→lt (l .heads) 32 y in omega (arith, b, c))))))
+
+-- the expr behind a head
+module _ {f : Phrase} {s : List ℕ} {d d′ : Counts} {ss : List Symbol} {h : Here} {t t′ : List ℕ} {x e c w k : ℕ} {r : Read} (q : f .text ≡ s) (z : d ≡ d′) (g : Going f (at d (a (EXPR no-records) ∷ ss) ∷ []) h t (many x e c (some w)) 0 k) (u : Answers (the s d′ (EXPR no-records) h t) 1 r t′) where
+  head-expr : {m : Node} {i : Here} → r ≡ Done m i → Going f (at d ss ∷ []) i t′ (many x (m .end) (c + 1) (some w)) 0 (k + 1)
+  unfolding inside
+  head-expr = reads-it q z u g refl
+
+  head-fails : {y : Refusal} → r ≡ Refused y → Answers f 1 r t′
+  unfolding inside
+  head-fails y = stopped y (refuses-it q z u g y)
+
+-- `if expr block [else block or if]` from behind its `if` on
+module _ {s : List ℕ} {i : Here} {t₀ : List ℕ} {l l′ : Limits} {start : ℕ} {r₁ : Read} {t₁ : List ℕ} (p : l′ ≡ headed l) (u₁ : Answers (the s (counts l′) (EXPR no-records) i t₀) 1 r₁ t₁) where
+  pub if-fails : {x : Refusal} → r₁ ≡ Refused x → Chained s i t₀ l start r₁ t₁
+  if-fails e₁ f d e w k q z b g = head-fails q (z ∙ ap counts (sym p)) g u₁ e₁
+
+  module _ {m₁ : Node} {h₁ : Here} (e₁ : r₁ ≡ Done m₁ h₁) {r₂ : Read} {t₂ : List ℕ} (u₂ : Answers (the s (counts l) BLOCK h₁ t₁) 1 r₂ t₂) where
+    pub if-block-fails : {x : Refusal} → r₂ ≡ Refused x → Chained s i t₀ l start r₂ t₂
+    if-block-fails e₂ f d e w k q z b g = stopped e₂ (refuses-it q b u₂ (head-expr q (z ∙ ap counts (sym p)) g u₁ e₁) e₂)
+
+    module _ {m₂ : Node} {h₂ : Here} (e₂ : r₂ ≡ Done m₂ h₂) {r₃ : Read} {t₃ : List ℕ} (u₃ : Elsed s h₂ t₂ l (m₂ .end) r₃ t₃) where
+      elsed : (f : Phrase) (d : Counts) (e w k : ℕ) → f .text ≡ s → d ≡ counts (headed l) → inside body d ≡ counts l → Going f (at d (a (EXPR no-records) ∷ behind BLOCK ∷ behind ELSE ∷ row 28 ∷ []) ∷ []) i t₀ (many start e 0 (some w)) 0 k → Partly f r₃ t₃ (λ m h′. Going f (at d (row 28 ∷ []) ∷ []) h′ t₃ (many start (m .end) (2 + m .children) (some w)) 0 (k + 1 + 1))
+      elsed f d e w k q z b g = u₃ f d (row 28 ∷ []) [] start 2 w 0 (k + 1 + 1) q b (reads-it q b u₂ (head-expr q (z ∙ ap counts (sym p)) g u₁ e₁) refl e₂)
+
+      pub if-else-fails : {x : Refusal} → r₃ ≡ Refused x → Chained s i t₀ l start r₃ t₃
+      if-else-fails e₃ f d e w k q z b g = stopped e₃ (partly-stopped (elsed f d e w k q z b g) e₃)
+
+      pub if-ends : {m₃ : Node} {h₃ : Here} {v : Row} {r : Read} {t : List ℕ} → r₃ ≡ Done m₃ h₃ → v ≡ plainRow 28 start (m₃ .end) (m₃ .children + 2) → r ≡ Done (nodeOf v) (later h₃) → t ≡ putRow t₃ (h₃ .rows) v → Chained s i t₀ l start r t
+      if-ends {m₃} e₃ o x y f d e w k q z b g = finished (partly-of (elsed f d e w k q z b g) e₃) (omega arith) refl refl (o ∙ ap (plainRow 28 start (m₃ .end)) (omega arith)) x y
+
+-- an `if` that no `else` stands before, and one that does
+pub head-chained : {f : Phrase} {l : Limits} {h : Here} {t : List ℕ} {start : ℕ} {r : Read} {t′ : List ℕ} → Head f l (a (EXPR no-records) ∷ behind BLOCK ∷ behind ELSE ∷ row 28 ∷ []) h t start 0 → Chained (f .text) h t l start r t′ → Answers f 1 r t′
+head-chained {f} b u = u f (b .at-counts) (b .end) (b .sign) 4 refl (b .headed-so) (b .body-so) (b .going)
+
+pub four-fails : {s : List ℕ} {l : Limits} {h : Here} {t : List ℕ} {r : Read} → Stands s h → h .word ≢ 69 → h .word ≢ 81 → h .word ≢ 67 → h .word ≢ 73 → r ≡ unused h → Answers (the s (counts l) FOUR h t) 1 r t
+four-fails g i w f m e = none-fits four-off g (not-first _ 69 (73 ∷ 81 ∷ 67 ∷ []) i (not-first _ 73 (81 ∷ 67 ∷ []) m (not-first _ 81 (67 ∷ []) w (not-first _ 67 [] f (λ x. x))))) e
+
+module _ {s : List ℕ} {h : Here} {t : List ℕ} {l : Limits} (g : Stands s h) (e : h .word ≡ 69) where
+  else-if-begins : Going (the s (counts l) ELSE-IF h t) (at (counts l) else-if-is ∷ []) h t bare 0 0
+  else-if-begins = begins-any else-if-any g
+
+  else-if-full : (l .heads < 32 → l .chain < 32 → ⊥) → Stopped (the s (counts l) ELSE-IF h t) (refusalAt 9 (h .start) (h .end)) t
+  unfolding kept
+  else-if-full n = refuses-past else-if-begins tt (is-word e) (not-T (ltb (l .heads) 32 && ltb (l .chain) 32) (λ y. n (ltb→lt (l .heads) 32 (and-l (ltb (l .heads) 32) (ltb (l .chain) 32) y)) (ltb→lt (l .chain) 32 (and-r (ltb (l .heads) 32) (ltb (l .chain) 32) y))))
+
+  pub else-if-long : {r : Read} → 32 ≤ l .chain → r ≡ Refused (refusalAt 9 (h .start) (h .end)) → Answers (the s (counts l) ELSE-IF h t) 1 r t
+  else-if-long c q = stopped q (else-if-full (λ x y. omega (arith, c, y)))
+
+  module _ {r : Read} (u : r ≡ under s h (l .heads)) where
+    pub else-if-deep : {x : Refusal} → r ≡ Refused x → Answers (the s (counts l) ELSE-IF h t) 1 r t
+    else-if-deep q = let k = under-refused s h (l .heads) u q in stopped q (subst (λ (y : Refusal). Stopped (the s (counts l) ELSE-IF h t) y t) (k .1) (else-if-full (λ x y. k .0 x)))
+
+    pub else-if-on : {l′ : Limits} {m : Node} {i : Here} → l .chain < 32 → l′ ≡ chained l → r ≡ Done m i → Head (the s (counts l) ELSE-IF h t) l′ (a (EXPR no-records) ∷ behind BLOCK ∷ behind ELSE ∷ row 28 ∷ []) i t (m .start) 0
+    unfolding kept
+    else-if-on {i = i} c p q =
+        let k = under-done s h (l .heads) u q in
+        record {
+          at-counts = after is-else-if (counts l);
+          end = h .end;
+          sign = h .word;
+          headed-so = counts-chained l (k .0) c ∙ ap (λ (x : Limits). counts (headed x)) (sym p);
+          body-so = counts-chain-body l c ∙ ap counts (sym p);
+          going = subst (λ (x : Node). Going (the s (counts l) ELSE-IF h t) (at (after is-else-if (counts l)) (a (EXPR no-records) ∷ behind BLOCK ∷ behind ELSE ∷ row 28 ∷ []) ∷ []) i t (many (x .start) (h .end) 0 (some (h .word))) 0 4) (k .1 .node) (takes else-if-begins tt (is-word e) (both (ltb (l .heads) 32) (ltb (l .chain) 32) (lt→ltb (l .heads) 32 (k .0)) (lt→ltb (l .chain) 32 c)) (k .1 .here));
+        }
+
+-- behind a head: its expr, its block, its row
+module _ {f : Phrase} {l l′ : Limits} {h : Here} {t : List ℕ} {x c : ℕ} {r₁ : Read} {t₁ : List ℕ} (p : l′ ≡ headed l) (u₁ : Answers (the (f .text) (counts l′) (EXPR no-records) h t) 1 r₁ t₁) where
+  pub head-expr-fails : {ss : List Symbol} {y : Refusal} → Head f l (a (EXPR no-records) ∷ ss) h t x c → r₁ ≡ Refused y → Answers f 1 r₁ t₁
+  head-expr-fails b = head-fails refl (b .headed-so ∙ ap counts (sym p)) (b .going) u₁
+
+  module _ {n : ℕ} (b : Head f l (a (EXPR no-records) ∷ behind BLOCK ∷ row n ∷ []) h t x c) {m₁ : Node} {h₁ : Here} (e₁ : r₁ ≡ Done m₁ h₁) {r₂ : Read} {t₂ : List ℕ} (u₂ : Answers (the (f .text) (counts l) BLOCK h₁ t₁) 1 r₂ t₂) where
+    pub head-body-fails : {y : Refusal} → r₂ ≡ Refused y → Answers f 1 r₂ t₂
+    head-body-fails e₂ = stopped e₂ (refuses-it refl (b .body-so) u₂ (head-expr refl (b .headed-so ∙ ap counts (sym p)) (b .going) u₁ e₁) e₂)
+
+    pub head-ends : {m₂ : Node} {h₂ : Here} {v : Row} {r : Read} {t₃ : List ℕ} → r₂ ≡ Done m₂ h₂ → eqb n 0 ≡ false → eqb n literal-row ≡ false → v ≡ rowOver n (many x (m₂ .end) (c + 1 + 1) (some (b .sign))) 0 → r ≡ Done (nodeOf v) (later h₂) → t₃ ≡ putRow t₂ (h₂ .rows) v → Answers f 1 r t₃
+    head-ends e₂ = finished (reads-it refl (b .body-so) u₂ (head-expr refl (b .headed-so ∙ ap counts (sym p)) (b .going) u₁ e₁) refl e₂) (omega arith)
+
+-- `for name in`
+module _ {f : Phrase} {l : Limits} {ss : List Symbol} {h : Here} {t : List ℕ} {x c : ℕ} (b : Head f l (a NAME ∷ word 'in' ∷ ss) h t x c) {r₁ : Read} {t₁ : List ℕ} (u₁ : Anyhow (f .text) NAME h t 3 r₁ t₁) where
+  pub for-name-fails : {y : Refusal} → r₁ ≡ Refused y → Answers f 1 r₁ t₁
+  for-name-fails e₁ = relays (b .going) refl (u₁ _) e₁
+
+  module _ {m₁ : Node} {h₁ : Here} (e₁ : r₁ ≡ Done m₁ h₁) {r₂ : Read} (u₂ : r₂ ≡ expected (f .text) h₁ 71) where
+    for-in : Going f (at (b .at-counts) (word 'in' ∷ ss) ∷ []) h₁ t₁ (many x (m₁ .end) (c + 1) (some (b .sign))) 0 7
+    for-in = reads-one (b .going) refl refl (whole-of (u₁ _) e₁)
+
+    pub for-in-fails : {y : Refusal} → r₂ ≡ Refused y → Answers f 1 r₂ t₁
+    for-in-fails e₂ = stopped e₂ (misses 71 for-in u₂ e₂)
+
+    pub for-on : {m₂ : Node} {h₂ : Here} → l .signs ≡ 0 → r₂ ≡ Done m₂ h₂ → Head f l ss h₂ t₁ x (c + 1)
+    unfolding after inside
+    for-on {m₂} o e₂ = record {
+      at-counts = after plain (b .at-counts);
+      end = m₂ .end;
+      sign = b .sign;
+      headed-so = ap (after plain) (b .headed-so);
+      body-so = ap (after plain) (b .body-so) ∙ counts-same l o;
+      going = fewer 4 (omega arith) (expects 71 for-in tt u₂ e₂);
+    }
+
+-- `match expr {`
+module _ {f : Phrase} {l l′ : Limits} {h : Here} {t : List ℕ} {x : ℕ} {r₁ : Read} {t₁ : List ℕ} (p : l′ ≡ headed l) (b : Head f l (a (EXPR no-records) ∷ opens open-brace ∷ behind ARMS ∷ closes close-brace ∷ row 31 ∷ []) h t x 0) (u₁ : Answers (the (f .text) (counts l′) (EXPR no-records) h t) 1 r₁ t₁) {m₁ : Node} {h₁ : Here} (e₁ : r₁ ≡ Done m₁ h₁) {r₂ : Read} (u₂ : r₂ ≡ opening (f .text) h₁ 40 (l .brackets)) where
+  matches : Going f (at (b .at-counts) (opens open-brace ∷ behind ARMS ∷ closes close-brace ∷ row 31 ∷ []) ∷ []) h₁ t₁ (many x (m₁ .end) 1 (some (b .sign))) 0 5
+  matches = head-expr refl (b .headed-so ∙ ap counts (sym p)) (b .going) u₁ e₁
+
+  match-alike : Alike (b .at-counts) (headed l)
+  match-alike = subst (λ (d : Counts). Alike d (headed l)) (sym (b .headed-so)) (alike-counts (headed l))
+
+  pub match-fails : {y : Refusal} → r₂ ≡ Refused y → Answers f 1 r₂ t₁
+  match-fails e₂ = stopped e₂ (opens-off 40 (headed l) matches tt match-alike u₂ e₂)
+
+  pub match-ends : {l₃ : Limits} {m₂ : Node} {h₂ : Here} {r : Read} {t₂ : List ℕ} → r₂ ≡ Done m₂ h₂ → l₃ ≡ opened l → Matched (f .text) h₂ t₁ l₃ x r t₂ → Answers f 1 r t₂
+  unfolding after inside
+  match-ends e₂ o v = v f (after opens-bracket (b .at-counts)) _ _ refl (ap (after opens-bracket) (b .body-so) ∙ counts-opened l (opening-done (f .text) h₁ 40 (l .brackets) u₂ e₂ .1) ∙ ap counts (sym o)) (fewer 1 (omega arith) (opens-on 40 (headed l) matches tt match-alike u₂ e₂))
+
+-- perhaps `else` and a block or `if`
+pub else-none : {s : List ℕ} {h : Here} {t : List ℕ} {l : Limits} {end : ℕ} {r : Read} → h .word ≢ 63 → r ≡ Done (record { kind = 0; start = end; end = end; children = 0 }) h → Elsed s h t l end r t
+else-none {h = h} {t = t} {end = end} n e f d ss ks x c w v k q b g = partly e (subst (λ (i : ℕ). Going f (at d ss ∷ ks) h t (many x end i (some w)) v k) (omega arith) (out (into-off else-off refl (λ m. n (the-word m)) g)))
+
+module _ {s : List ℕ} {h h₁ : Here} {t : List ℕ} (e : h .word ≡ 63) (z : h₁ ≡ passed s h) where
+  else-word : {f : Phrase} {d : Counts} {ss : List Symbol} {ks : List Left} {x i c w v k : ℕ} → f .text ≡ s → Going f (at d (behind ELSE ∷ ss) ∷ ks) h t (many x i c (some w)) v k → Going f (at (after plain (inside body d)) (a ELSE-PART ∷ []) ∷ at d ss ∷ ks) h₁ t (many x (h .end) c (some w)) v (k + 4)
+  unfolding kept
+  else-word q g = takes (into-on else-on refl (is-word e) g) tt (is-word e) tt (subst (λ (y : List ℕ). h₁ ≡ passed y h) (sym q) z)
+
+  pub else-fails : {l : Limits} {end : ℕ} {r : Read} → h₁ .word ≢ 69 → h₁ .word ≢ 40 → r ≡ unused h₁ → Elsed s h t l end r t
+  else-fails i o u f d ss ks x c w v k q b g = partly-stops u (refuses-off elses-off (not-first _ 69 (40 ∷ []) i (not-first _ 40 [] o (λ y. y))) (else-word q g))
+
+  -- behind `else` a phrase of kind n, which this word begins
+  module _ {n o : ℕ} (y : On ELSE-PART (some (a n ∷ [])) (o ∷ [])) (i : h₁ .word ≡ o) {l l₁ : Limits} (p : l₁ ≡ plainly l) {end : ℕ} {r : Read} {t₁ : List ℕ} (u : Answers (the s (counts l₁) n h₁ t) 1 r t₁) where
+    pub elses-fails : {j : Refusal} → r ≡ Refused j → Elsed s h t l end r t₁
+    unfolding inside
+    elses-fails j f d ss ks x c w v k q b g = partly-stops j (refuses-it q (counts-behind b p) u (into-on y refl (is-word i) (else-word q g)) j)
+
+    pub elses-ends : {m : Node} {j : Here} {r₁ : Read} → one-of n rest-kinds ≡ false → r ≡ Done m j → r₁ ≡ Done (record { kind = 0; start = m .start; end = m .end; children = 1 }) j → Elsed s h t l end r₁ t₁
+    unfolding inside
+    elses-ends a₁ e₁ j f d ss ks x c w v k q b g = partly j (fewer k (omega arith) (out (out (reads-it q (counts-behind b p) u (into-on y refl (is-word i) (else-word q g)) a₁ e₁))))

@@ -1,0 +1,15 @@
+pub mod Alternatives
+pub mod Partly
+pub mod Answered
+pub mod Leaves
+pub mod Paths
+pub mod Lists
+pub mod Types
+pub mod Imports
+pub mod Declarations
+pub mod Wholes
+pub mod Exprs
+pub mod Operands
+pub mod Heads
+pub mod Arms
+pub mod Blocks

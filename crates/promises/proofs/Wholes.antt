@@ -1,0 +1,215 @@
+-- What is followed without a tally: a literal, whose row its token gives; a whole source.
+use mathlib.Core.Path.{_≡_, refl, sym, ap, subst, _∙_}
+use mathlib.Core.List.{List, [], _∷_}
+use mathlib.Core.Bool.{Bool, true, false, not}
+use mathlib.Core.Logic.{_≢_}
+use Prim.Native.Nat.{ℕ, _+_, _≤_, _<_}
+use lib.Dec.{T, ltb, ltb→lt, lt→ltb}
+use lib.ListN.{length, length-append}
+use lib.Seq.{slice}
+use native.Mathlib.Omega.{arith}
+use Rattle.chars.specs.Chars.{pick}
+use Rattle.tokens.specs.declared.Refusal.{Refusal}
+use Rattle.rows.specs.declared.Row.{Row}
+use Rattle.rows.specs.Rows.{putRow}
+use Rattle.values.specs.declared.Literal.{Literal}
+use Rattle.values.specs.Literals.{literalOf}
+use Rattle.grammar.specs.Words.{literals}
+use Rattle.grammar.specs.Grammar.{same, Token, one-of}
+use Rattle.grammar.specs.Limits.{Counts, zeros, inside, kept}
+use Rattle.grammar.specs.Table.{a}
+use Rattle.grammar.specs.Kinds.{records, TREE, DECLARATIONS, DECLARATION, EXPR, LITERAL}
+use Rattle.grammar.specs.Rows.{Item, own, count, Draft, blank, take-note, row-of, literal-of, tree-row, rows-from}
+use Rattle.grammar.specs.Rows as grammar
+use Rattle.grammar.specs.Refusals.{want}
+use Rattle.grammar.specs.Refusals as refusals
+use Rattle.grammar.specs.Language.{goal}
+use Rattle.grammar.specs.Answers.{refused}
+use Rattle.grammar.specs.Answers as answers
+use Rattle.grammar.specs.Phrases as phrases
+use Rattle.grammar.proofs.Bools.{T→eq}
+use Rattle.grammar.proofs.Frame.{with-own}
+use Rattle.grammar.proofs.Summary.{sum, sum-of}
+use Rattle.grammar.proofs.Open.{Open, start, take, notes, pop, finish}
+use Rattle.grammar.proofs.Entry.{read-accepted, read-left, refused-stops}
+use Rattle.answers.specs.Source.{source, holds, tokenFor}
+use Rattle.parser.specs.declared.Here.{Here}
+use Rattle.parser.specs.declared.Node.{Node}
+use Rattle.parser.specs.declared.Read.{Read}
+use Rattle.parser.specs.declared.Read.the-variants.{Done, Refused}
+use Rattle.parser.specs.Places.{bumped, hereAt, unused, passed, later, refusalAt, nodeOf, plainRow}
+use Rattle.parser.specs.Going.{language, tokenOf, Stands, asRow, store, Tally, bare, lone, many, Holds, withNode, countOf, Phrase, Going, Stopped, Answers}
+use Rattle.parser.proofs.Standing.{here-place, here-rows, says, is-over, not-over, solid-word, is-token, goes-past, more-rows, next-small}
+use Rattle.parser.proofs.Tables.{store-row, store-length}
+use Rattle.parser.proofs.Going.{at, out, last, reads-one, refuses-in, refuses-past, done, stopped, whole-of, stopped-of, fewer, few-rows, kept-length}
+use Rattle.parser.proofs.Picks.{picks-else, begins-any, into-on, into-off}
+use Rattle.promises.specs.Firsts.{declarationFirsts}
+use Rattle.promises.specs.Promises.{the, FinishedIs, Finished}
+use Rattle.promises.proofs.Alternatives.{literal-is, literal-any, tree-any, declarations-on, declarations-off}
+use Rattle.promises.proofs.Answered.{kept-either}
+
+pub bumped-is : (n : ℕ) → n < 300000 → bumped n ≡ n + 1
+bumped-is n h = ap (λ (b : Bool). pick b (n + 1) n) (T→eq (ltb n 300000) (lt→ltb n 300000 h))
+
+-- a literal: its row is what its token says
+abbrev literalRow : Here → ℕ → ℕ → ℕ → Row
+literalRow h k v d = record { kind = k; start = h .start; end = h .end; children = 0; value = v; detail = d }
+
+module _ (s : List ℕ) (d : Counts) (h : Here) (t : List ℕ) (g : Stands s h) (o : T (one-of (h .word) literals)) {x : Literal} (p : x ≡ literalOf (h .code) (slice (h .start) (h .end) s)) where
+  abbrev Literally : Phrase
+  Literally = the s d LITERAL h t
+
+  pub literal-none : {r : Read} → x ≡ Literal.None → r ≡ Refused (refusalAt 7 (h .start) (h .end)) → Answers Literally 1 r t
+  unfolding kept
+  literal-none n e = stopped e (refuses-past (begins-any literal-any g) tt o (subst (λ (y : Literal). T (not (holds y))) (sym n ∙ p) tt))
+
+  module _ {k v e : ℕ} (q : x ≡ Literal.Is k v e) where
+    row-is : asRow (literal-of (own (tokenOf s h) ∷ [])) ≡ literalRow h k v e
+    row-is = ap (λ (y : Literal). asRow (literal-of (own (tokenFor (h .word) (h .start) (h .end) y) ∷ []))) (sym p ∙ q)
+
+    pub literal-read : {z : Here} {r : Read} {t′ : List ℕ} → z ≡ passed s h → (r ≡ Done (nodeOf (literalRow h k v e)) (later z)) × (t′ ≡ putRow t (z .rows) (literalRow h k v e)) → Answers Literally 1 r t′
+    unfolding inside kept take-note row-of store
+    literal-read j w =
+        let n = solid-word (h .word) literals tt o in
+        let b = goes-past g (n .0) (n .1) refl in
+        let c = is-token g (n .0) (n .1) in
+        let x : Token = tokenOf s h in
+        let few = b .0 .few in
+        let small = next-small (b .0) in
+        let short = g .short in
+        let next = b .2 in
+        let same-rows = b .3 in
+        let more : bumped ((passed s h) .rows) ≡ (passed s h) .rows + 1 = bumped-is ((passed s h) .rows) (omega arith) in
+        let had = g .few in
+        let opened = pop (source s) language (notes (source s) language (take (source s) language (c .0) tt o (subst (λ (y : Literal). T (holds y)) (sym q ∙ p) tt) (start (source s) language literal-is (picks-else s g literal-any (λ z. z))))) in
+        done (w .0 ∙ ap (λ (z : Here). Done (nodeOf (literalRow h k v e)) (later z)) j) (record {
+          draft = take-note 100 (with-own x blank);
+          read = finish (source s) language (subst (λ (z : ℕ). Open (source s) language d same LITERAL (h .place) [] z (take-note 100 (with-own x blank))) (sym (b .1)) opened);
+          stands = more-rows (b .0) refl (omega (arith, more, had, same-rows, next));
+          leaves = (literal-of (own x ∷ []), refl, ap (λ (z : Row). z .kind) row-is, refl, refl);
+          rows = omega (arith, more, same-rows);
+          stored = w .1 ∙ ap (λ (z : Here). putRow t (z .rows) (literalRow h k v e)) j ∙ ap (λ (z : ℕ). putRow t z (literalRow h k v e)) same-rows ∙ ap (putRow t (h .rows)) (sym row-is);
+          counted = omega (arith, more, same-rows);
+          spares = omega (arith, more, same-rows, next);
+        })
+
+-- either way the table keeps its length
+pub finished-kept : {tree : Bool} {s t : List ℕ} {r : Read} {t′ : List ℕ} → length s ≤ 65535 → Finished tree s t r t′ → length t′ ≡ length t
+finished-kept {tree} {s} {t} {r} {t′} h u = go r (u .short h)
+  where
+    go : (r : Read) → FinishedIs tree s t r t′ → length t′ ≡ length t
+    go (Done m z) x = ap length (x .3) ∙ store-length t 0 (x .0)
+    go (Refused e) x = x .1
+
+-- a source that is too long
+pub finished-long : (tree : Bool) (s t : List ℕ) {r : Read} → 65535 < length s → r ≡ Refused (refusalAt 1 65535 65535) → Finished tree s t r t
+finished-long tree s t h e = record { short = λ q. absurd (omega (arith, h, q)); long = λ q. (e, refl) }
+
+-- where a reader begins
+module _ (s : List ℕ) (short : length s ≤ 65535) {i : Here} (b : i ≡ hereAt s 0 0) where
+  first-place : i .place ≡ 0
+  first-place = ap (λ (x : Here). x .place) b ∙ here-place s 0 0
+
+  first-rows : i .rows ≡ 0
+  first-rows = ap (λ (x : Here). x .rows) b ∙ here-rows s 0 0
+
+  pub first-stands : Stands s i
+  first-stands = let p = first-place in let r = first-rows in record { short = short; seen = b ∙ ap (λ (x : ℕ). hereAt s x 0) (sym p) ∙ ap (hereAt s (i .place)) (sym r); placed = omega (arith, p); few = omega (arith, r) }
+
+-- a source from its first byte on
+module _ (tree : Bool) (s t : List ℕ) (short : length s ≤ 65535) {i : Here} (b : i ≡ hereAt s 0 0) where
+  abbrev All : Phrase
+  All = the s zeros (goal tree) i t
+
+  finished-is : {r q : Read} {t′ : List ℕ} → r ≡ q → FinishedIs tree s t q t′ → Finished tree s t r t′
+  finished-is {t′ = t′} e x = record { short = λ h. subst (λ (y : Read). FinishedIs tree s t y t′) (sym e) x; long = λ h. absurd (let z = ltb→lt 65535 (length s) h in omega (arith, z, short)) }
+
+  from-first : {x : answers.Answer} → answers.Answers (source s) true tree (length s) (i .place) x → answers.Answers (source s) true tree (length s) 0 x
+  from-first {x} = subst (λ (p : ℕ). answers.Answers (source s) true tree (length s) p x) (first-place s short b)
+
+  pub finished-stops : {r : Read} {e : Refusal} {t′ : List ℕ} → Stopped All e t′ → r ≡ Refused e → Finished tree s t r t′
+  finished-stops u q = finished-is q (from-first (subst (λ (x : refusals.Refusal). answers.Answers (source s) true tree (length s) (i .place) (refused x)) (u .says) (refused-stops (source s) true tree (length s) (u .stops))), u .kept)
+
+  module _ {h : Here} {x : Draft} (u : phrases.Read (source s) language zeros same (goal tree) (i .place) (h .place) x) (g : Stands s h) where
+    pub finished-left : {r : Read} {t′ : List ℕ} → h .word ≢ 0 → r ≡ unused h → length t′ ≡ length t → Finished tree s t r t′
+    finished-left n q k = finished-is q (from-first (subst (λ (x : refusals.Refusal). answers.Answers (source s) true tree (length s) (i .place) (refused x)) (says g (want []) (λ len x. refl, λ len q. refl)) (read-left (source s) true tree (length s) u (not-over g n))), k)
+
+    pub finished-read : {r : Read} {m : Node} {z : Here} {t′ : List ℕ} → h .word ≡ 0 → r ≡ Done m z → z .rows ≡ length (rows-from tree (length s) x) → t′ ≡ store t 0 (rows-from tree (length s) x) → Finished tree s t r t′
+    finished-read n q c k = finished-is q (rows-from tree (length s) x, from-first (read-accepted (source s) true tree (length s) u (is-over g n)), c, k)
+
+-- one expression
+module _ (s t : List ℕ) (short : length s ≤ 65535) {i : Here} (b : i ≡ hereAt s 0 0) {r : Read} {t′ : List ℕ} (u : Answers (the s zeros (EXPR records) i t) 1 r t′) where
+  pub expression-refused : {e : Refusal} → r ≡ Refused e → Finished false s t r t′
+  expression-refused e = finished-stops false s t short b (stopped-of u e) e
+
+  module _ {m : Node} {h : Here} (e : r ≡ Done m h) where
+    pub expression-left : {r′ : Read} → h .word ≢ 0 → r′ ≡ unused h → Finished false s t r′ t′
+    expression-left n q = let w = whole-of u e in finished-left false s t short b (w .read) (w .stands) n q (kept-either u)
+
+    pub expression-read : h .word ≡ 0 → Finished false s t (Done m h) t′
+    unfolding rows-from
+    expression-read n = let w = whole-of u e in let z = first-rows s short b in finished-read false s t short b (w .read) (w .stands) n refl (let q = w .rows in omega (arith, z, q)) (w .stored ∙ ap (λ (k : ℕ). store t k (w .draft .rows)) z)
+
+-- the number of rows that a tally knows
+holds-count : (y : Tally) (xs : List Item) → Holds y xs → count xs ≡ countOf y
+holds-count bare xs e = ap count e
+holds-count (lone k a e) xs h = ap count (h .1)
+holds-count (many a e c w) xs h = go xs h
+  where
+    go : (xs : List Item) → sum-of xs ≡ sum a e c w → count xs ≡ c
+    go [] q = let z : _≡_ {A = ℕ} 0 1 = cc in absurd (omega arith)
+    go (x ∷ xs) q = cc
+
+one-node : (y : Tally) (m : Node) → countOf (withNode y m) ≡ countOf y + 1
+one-node bare m = refl
+one-node (lone k a e) m = refl
+one-node (many a e c w) m = refl
+
+-- A tree that was begun: so many declarations of it were read.
+pub record Declaring (f : Phrase) (c : ℕ) (h : Here) (t : List ℕ) : Type 0 where
+  pub tally : Tally
+  pub count : countOf tally ≡ c
+  pub going : Going f (at zeros (a DECLARATIONS ∷ []) ∷ []) h t tally 0 0
+
+-- from where the loop over them began
+abbrev pub Declares : List ℕ → ℕ → Here → List ℕ → ℕ → Here → List ℕ → Type 0
+Declares s c₀ h₀ t₀ c h t = (i : Here) (t′ : List ℕ) → Declaring (the s zeros TREE i t′) c₀ h₀ t₀ → Declaring (the s zeros TREE i t′) c h t
+
+module _ (s t₀ : List ℕ) (short : length s ≤ 65535) {i : Here} (b : i ≡ hereAt s 0 0) where
+  pub tree-begins : Declaring (the s zeros TREE i t₀) 0 i t₀
+  tree-begins = record { tally = bare; count = refl; going = begins-any tree-any (first-stands s short b) }
+
+  module _ {c : ℕ} {h : Here} {t : List ℕ} (x : Declaring (the s zeros TREE i t₀) c h t) where
+    pub tree-few : (c < 300000) × (h .next ≤ 65536)
+    tree-few = let q = few-rows (x .going) in let y = x .count in (omega arith, omega arith)
+
+    pub tree-refused : {r : Read} {e : Refusal} {t′ : List ℕ} → T (one-of (h .word) declarationFirsts) → Answers (the s zeros DECLARATION h t) 1 r t′ → r ≡ Refused e → Finished true s t₀ r t′
+    unfolding inside
+    tree-refused m u e = finished-stops true s t₀ short b (refuses-in (into-on declarations-on refl m (x .going)) refl (stopped-of u e)) e
+
+    module _ (o : T (one-of (h .word) declarationFirsts) → ⊥) where
+      tree-over : Going (the s zeros TREE i t₀) [] h t (x .tally) 0 0
+      tree-over = out (out (into-off declarations-off refl o (x .going)))
+
+      pub tree-left : {r : Read} → h .word ≢ 0 → r ≡ unused h → Finished true s t₀ r t
+      tree-left n q = finished-left true s t₀ short b (finish (source s) language (tree-over .opened)) (x .going .stands) n q (kept-length tree-over)
+
+      pub tree-read : {y : Row} {r : Read} {t′ : List ℕ} → h .word ≡ 0 → y ≡ plainRow 43 0 (length s) c → (r ≡ Done (nodeOf y) (later h)) × (t′ ≡ putRow t (h .rows) y) → Finished true s t₀ r t′
+      unfolding rows-from
+      tree-read n e p =
+          let g = tree-over in
+          let d : Draft = g .draft in
+          let z = first-rows s short b in
+          let r = g .rows in
+          let few = few-rows g in
+          let more = bumped-is (h .rows) (few .0) in
+          let len = length-append (d .rows) (tree-row (length s) d ∷ []) in
+          let k : grammar.count (d .items) ≡ c = holds-count (x .tally) (d .items) (g .holds) ∙ x .count in
+          let at-start : t ≡ store t₀ 0 (d .rows) = g .stored ∙ ap (λ (q : ℕ). store t₀ q (d .rows)) z in
+          let rows : h .rows ≡ 0 + length (d .rows) = omega (arith, z, r) in
+          finished-read true s t₀ short b (finish (source s) language (g .opened)) (g .stands) n (p .0) (omega (arith, more, r, z, len)) (p .1 ∙ ap (putRow t (h .rows)) e ∙ ap (λ (q : List ℕ). putRow q (h .rows) (plainRow 43 0 (length s) c)) at-start ∙ ap (λ (q : ℕ). putRow (store t₀ 0 (d .rows)) q (plainRow 43 0 (length s) c)) rows ∙ ap (λ (q : ℕ). putRow (store t₀ 0 (d .rows)) (0 + length (d .rows)) (plainRow 43 0 (length s) q)) (sym k) ∙ sym (store-row t₀ 0 (d .rows) (tree-row (length s) d)))
+
+-- one declaration more
+pub tree-more : {s : List ℕ} {i : Here} {t₀ : List ℕ} {c : ℕ} {h : Here} {t : List ℕ} {r : Read} {m : Node} {z : Here} {t′ : List ℕ} → Declaring (the s zeros TREE i t₀) c h t → T (one-of (h .word) declarationFirsts) → Answers (the s zeros DECLARATION h t) 1 r t′ → r ≡ Done m z → Declaring (the s zeros TREE i t₀) (c + 1) z t′
+unfolding inside
+tree-more {m = m} x o u e = record { tally = withNode (x .tally) m; count = one-node (x .tally) m ∙ ap (λ (n : ℕ). n + 1) (x .count); going = fewer 0 (omega arith) (last (reads-one (into-on declarations-on refl o (x .going)) refl refl (whole-of u e))) }

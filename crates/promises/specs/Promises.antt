@@ -1,0 +1,221 @@
+-- What the readers promise. A reader of one kind of phrase promises `Answers`. A reader of a part of a phrase promises
+-- for every phrase f that may be read around it: if f has come as far as this part (`Going`), then behind the part f
+-- has come so far, or f is refused (`Partly`). In all of these s is the source, h where the reader stands, t the table
+-- before, r the answer and t′ the table behind it.
+use mathlib.Core.Path.{_≡_}
+use mathlib.Core.List.{List, [], _∷_}
+use mathlib.Core.Bool.{Bool, true, false}
+use mathlib.Core.Option.{Option, none, some}
+use mathlib.Core.Logic.{_⊎_, _≢_}
+use Prim.Native.Nat.{ℕ, zero, suc, _+_, _≤_, _<_}
+use lib.Dec.{T, ltb}
+use lib.ListN.{length}
+use Rattle.tokens.specs.declared.Refusal.{Refusal}
+use Rattle.rows.specs.declared.Row.{Row}
+use Rattle.rows.specs.Rows.{putRow}
+use Rattle.grammar.specs.Words.{open-brace, close-brace, dot, names}
+use Rattle.grammar.specs.Grammar.{plain, closes-bracket, body, Symbol, phrase, one-of}
+use Rattle.grammar.specs.Limits.{Counts, after, inside}
+use Rattle.grammar.specs.Table.{a, behind, row, part, opens, closes}
+use Rattle.grammar.specs.Kinds.{no-records, RESULT, LET-TYPE, IMPORTPATH-DOT, STATEMENTS, STATEMENT, AFTER-FOUR, AFTER-EXPR, FOUR, FIELDS, FIELDS-MORE, FIELD, ELSE, BLOCK, ARMS, ARM-BODY, ARM-COMMA, ARM-NEXT, GUARD, EXPR, BINARY, AND, COMPARE, SUM, PRODUCT, OPERAND, POSTFIX, AFTER-PATH}
+use Rattle.grammar.specs.Rows as grammar
+use Rattle.grammar.specs.Answers.{accepted, refused}
+use Rattle.grammar.specs.Answers as answers
+use Rattle.grammar.proofs.Open.{Left}
+use Rattle.grammar.proofs.Summary.{or-word}
+use Rattle.answers.specs.Source.{source}
+use Rattle.parser.specs.declared.Here.{Here}
+use Rattle.parser.specs.declared.Limits.{Limits}
+use Rattle.parser.specs.declared.Node.{Node}
+use Rattle.parser.specs.declared.Read.{Read}
+use Rattle.parser.specs.declared.Read.the-variants.{Done, Refused}
+use Rattle.parser.specs.Places.{passed, later, unused, refusalAt, nodeOf, plainRow}
+use Rattle.parser.specs.Counted.{counts, headed, Alike}
+use Rattle.parser.specs.Going.{Stands, store, Tally, bare, lone, many, withNode, Phrase, Going, Stopped, Answers}
+use Rattle.parser.proofs.Going.{at}
+use Rattle.parser.proofs.Sides.{Around}
+
+-- The phrase of kind n from where a reader stands.
+abbrev pub the : List ℕ → Counts → ℕ → Here → List ℕ → Phrase
+the s d n h t = record { text = s; counts = d; kind = n; from = h; table = t }
+
+-- A phrase in which nothing is counted: the same answer whatever stands open.
+abbrev pub Anyhow : List ℕ → ℕ → Here → List ℕ → ℕ → Read → List ℕ → Type 0
+Anyhow s n h t k r t′ = (d : Counts) → Answers (the s d n h t) k r t′
+
+-- A part of the phrase f: with the answer `Done m h`, G tells how far f has come; with `Refused e`, f is refused.
+abbrev pub PartlyIs : Phrase → Read → List ℕ → (Node → Here → Type 0) → Type 0
+PartlyIs f (Done m h) t G = G m h
+PartlyIs f (Refused e) t G = Stopped f e t
+
+pub record Partly (f : Phrase) (r : Read) (t : List ℕ) (G : Node → Here → Type 0) : Type 0 where
+  pub is : PartlyIs f r t G
+
+-- The row of a token; the answer that goes past a token and writes a row; the same where the token has to be the word
+-- w, else it is unusable.
+abbrev pub itemRow : Here → Row
+itemRow h = plainRow 1 (h .start) (h .end) 0
+
+abbrev pub wrote : List ℕ → Here → Row → Read
+wrote s h r = Done (nodeOf r) (later (passed s h))
+
+pub record Closed (s : List ℕ) (h : Here) (t : List ℕ) (w : ℕ) (q : Row) (r : Read) (t′ : List ℕ) : Type 0 where
+  pub closed : h .word ≡ w → (r ≡ wrote s h q) × (t′ ≡ putRow t (h .rows) q)
+  pub other : h .word ≢ w → (r ≡ unused h) × (t′ ≡ t)
+
+-- A list in brackets, o to c: what the phrase has behind it, m being the list's node (its span and number of items).
+abbrev pub listed : Tally → ℕ → Node → Tally
+listed bare w m = many (m .start) (m .end) (m .children) (some w)
+listed (lone j a e) w m = many a (m .end) (m .children + 1) (some w)
+listed (many a e c x) w m = many a (m .end) (c + m .children) (or-word x w)
+
+abbrev pub Listed : List ℕ → Here → List ℕ → Limits → ℕ → ℕ → ℕ → Read → List ℕ → Type 0
+Listed s h t l o LIST c r t′ =
+    (f : Phrase) (d : Counts) (ss : List Symbol) (ks : List Left) (y : Tally) (v k : ℕ) → f .text ≡ s → Alike d l
+    → Going f (at d (opens o ∷ a LIST ∷ closes c ∷ ss) ∷ ks) h t y v k
+    → Partly f r t′ (λ m h′. Going f (at (after plain d) ss ∷ ks) h′ t′ (listed y o m) v (k + 4))
+
+-- Behind a part that may be there: n is 1 if it is (one row more, and the value is 1), else 0.
+pub record Perhaps (f : Phrase) (ks : List Left) (a c k n : ℕ) (h : Here) (t : List ℕ) : Type 0 where
+  pub end : ℕ
+  pub sign : Option ℕ
+  pub one : n ≤ 1
+  pub going : Going f ks h t (many a end (c + n) sign) n k
+
+abbrev pub TypeSign : ℕ → ℕ → Type 0
+TypeSign n sign = ((n ≡ RESULT) × (sign ≡ 27)) ⊎ ((n ≡ LET-TYPE) × (sign ≡ 46))
+
+abbrev pub Typing : List ℕ → Here → List ℕ → Limits → ℕ → Read → List ℕ → Type 0
+Typing s h t l sign r t′ =
+    (f : Phrase) (d : Counts) (ss : List Symbol) (ks : List Left) (n x e c k : ℕ) (w : Option ℕ) → f .text ≡ s → d ≡ counts l → TypeSign n sign
+    → Going f (at d (a n ∷ ss) ∷ ks) h t (many x e c w) 0 k
+    → Partly f r t′ (λ m h′. Perhaps f (at d ss ∷ ks) x c k (m .children) h′ t′)
+
+abbrev pub Guarded : List ℕ → Here → List ℕ → Limits → Read → List ℕ → Type 0
+Guarded s h t l r t′ =
+    (f : Phrase) (d : Counts) (ss : List Symbol) (ks : List Left) (x e c k : ℕ) (w : Option ℕ) → f .text ≡ s → d ≡ counts l
+    → Going f (at d (a GUARD ∷ ss) ∷ ks) h t (many x e c w) 0 k
+    → Partly f r t′ (λ m h′. Perhaps f (at d ss ∷ ks) x c k (m .children) h′ t′)
+
+-- The group `{ importpaths }` that ends an import path; behind it the path is whole.
+abbrev pub Grouped : List ℕ → Here → List ℕ → Limits → ℕ → ℕ → Read → List ℕ → Type 0
+Grouped s h t l start items r t′ =
+    (f : Phrase) (d : Counts) (e : ℕ) (w : Option ℕ) → f .text ≡ s → Alike d l
+    → Going f (at d (a IMPORTPATH-DOT ∷ []) ∷ at (f .counts) (row 44 ∷ []) ∷ []) h t (many start e items w) 0 3
+    → Answers f 2 r t′
+
+-- The kind of phrase whose signs have this level, 1 `||` to 5 `* / %`; beyond that an operand.
+abbrev pub LEVEL : ℕ → Bool → ℕ
+LEVEL zero b = BINARY b
+LEVEL (suc zero) b = BINARY b
+LEVEL (suc (suc zero)) b = AND b
+LEVEL (suc (suc (suc zero))) b = COMPARE b
+LEVEL (suc (suc (suc (suc zero)))) b = SUM b
+LEVEL (suc (suc (suc (suc (suc zero))))) b = PRODUCT b
+LEVEL (suc (suc (suc (suc (suc (suc n)))))) b = OPERAND b
+
+-- An operand that was read up to behind its atom, or behind some of what may follow that (`?`, a call, `. name`).
+-- Behind a path that is the whole atom other rules hold: neither `.` nor, where a record may stand, `{` can be next.
+pub record Postfixed (f : Phrase) (l : Limits) (b : Bool) (m : Node) (h : Here) (t : List ℕ) : Type 0 where
+  pub at-counts : Counts
+  pub alike : Alike at-counts l
+  pub going : Going f (at at-counts (a (POSTFIX b) ∷ []) ∷ []) h t (lone (m .kind) (m .start) (m .end)) 0 1
+      ⊎ (Going f (at at-counts (a (AFTER-PATH b) ∷ []) ∷ []) h t (lone (m .kind) (m .start) (m .end)) 0 1 × (h .word ≢ dot) × (T b → h .word ≢ open-brace))
+
+abbrev pub Atom : List ℕ → Here → List ℕ → Limits → Bool → Read → List ℕ → Type 0
+Atom s h t l b r t′ = Partly (the s (counts l) (OPERAND b) h t) r t′ (λ m h′. Postfixed (the s (counts l) (OPERAND b) h t) l b m h′ t′)
+
+abbrev pub Behind : List ℕ → Node → Here → List ℕ → Limits → Read → List ℕ → Type 0
+Behind s m h t l r t′ = (f : Phrase) (b : Bool) → f .text ≡ s → Postfixed f l b m h t → Partly f r t′ (λ m′ h′. Postfixed f l b m′ h′ t′)
+
+abbrev pub AnyBehind : List ℕ → Node → Here → List ℕ → Read → List ℕ → Type 0
+AnyBehind s m h t r t′ = (l : Limits) → Behind s m h t l r t′
+
+-- The fields of a record, from behind its `{` to behind its `}`; `paths` is 1 if a path stands before the record.
+abbrev pub fieldsTail : ℕ → List Symbol → List Symbol
+fieldsTail zero ss = row 36 ∷ ss
+fieldsTail (suc n) ss = part ∷ row 36 ∷ ss
+
+abbrev pub Fielded : List ℕ → Here → List ℕ → Limits → ℕ → ℕ → Read → List ℕ → Type 0
+Fielded s h t l start paths r t′ =
+    (f : Phrase) (d : Counts) (ss : List Symbol) (ks : List Left) (e k : ℕ) (w : Option ℕ) → f .text ≡ s → d ≡ counts l
+    → Going f (at d (a FIELDS ∷ closes close-brace ∷ fieldsTail paths ss) ∷ ks) h t (many start e paths w) 0 k
+    ⊎ (Going f (at d (a FIELD ∷ a FIELDS-MORE ∷ closes close-brace ∷ fieldsTail paths ss) ∷ ks) h t (many start e paths w) 0 k × T (one-of (h .word) names))
+    → Partly f r t′ (λ m h′. Going f (at (after closes-bracket d) ss ∷ ks) h′ t′ (lone (m .kind) (m .start) (m .end)) 0 k)
+
+-- An `if` from behind that word to its end; what may follow its block: `else` and a block, or `else if`.
+abbrev pub Chained : List ℕ → Here → List ℕ → Limits → ℕ → Read → List ℕ → Type 0
+Chained s h t l start r t′ =
+    (f : Phrase) (d : Counts) (e w k : ℕ) → f .text ≡ s → d ≡ counts (headed l) → inside body d ≡ counts l
+    → Going f (at d (a (EXPR no-records) ∷ behind BLOCK ∷ behind ELSE ∷ row 28 ∷ []) ∷ []) h t (many start e 0 (some w)) 0 k
+    → Answers f 1 r t′
+
+abbrev pub Elsed : List ℕ → Here → List ℕ → Limits → ℕ → Read → List ℕ → Type 0
+Elsed s h t l end r t′ =
+    (f : Phrase) (d : Counts) (ss : List Symbol) (ks : List Left) (x c w v k : ℕ) → f .text ≡ s → inside body d ≡ counts l
+    → Going f (at d (behind ELSE ∷ ss) ∷ ks) h t (many x end c (some w)) v k
+    → Partly f r t′ (λ m h′. Going f (at d ss ∷ ks) h′ t′ (many x (m .end) (c + m .children) (some w)) v k)
+
+-- The arms of a match, from behind its `{` to its end; one arm, with n 1 if another may follow and 0 if not; an arm's
+-- body.
+abbrev pub Matched : List ℕ → Here → List ℕ → Limits → ℕ → Read → List ℕ → Type 0
+Matched s h t l start r t′ =
+    (f : Phrase) (d : Counts) (e : ℕ) (w : Option ℕ) → f .text ≡ s → inside body d ≡ counts l
+    → Going f (at d (behind ARMS ∷ closes close-brace ∷ row 31 ∷ []) ∷ []) h t (many start e 1 w) 0 1
+    → Answers f 1 r t′
+
+abbrev pub armLeft : Counts → ℕ → List Left
+armLeft d zero = []
+armLeft d (suc n) = at d (a ARMS ∷ []) ∷ []
+
+pub record Armed (f : Phrase) (n : ℕ) (h : Here) (t : List ℕ) : Type 0 where
+  pub node : Node
+  pub one : n ≤ 1
+  pub around : Around f (armLeft (f .counts) n) h t node 1
+
+abbrev pub Bodied : List ℕ → Here → List ℕ → Limits → Read → List ℕ → Type 0
+Bodied s h t l r t′ =
+    (f : Phrase) (d : Counts) (ks : List Left) (y : Tally) (v k : ℕ) → f .text ≡ s → d ≡ counts l
+    → Going f (at d (a ARM-BODY ∷ []) ∷ ks) h t y v k
+    → Partly f r t′ (λ m h′. (h .word ≡ open-brace → Going f (at d (row 32 ∷ a ARM-COMMA ∷ a ARMS ∷ []) ∷ at d [] ∷ ks) h′ t′ (withNode y m) v (k + 1)) × (h .word ≢ open-brace → Going f (at d (row 32 ∷ a ARM-NEXT ∷ []) ∷ at d [] ∷ ks) h′ t′ (withNode y m) v (k + 1)))
+
+-- The statements of a block, from behind its `{` to its end. One statement, and by n how it ended: 0 with its `;`, 1 as
+-- an `if`, `while`, `for` or `match` without `;`, 2 as another expr without `;`, which is the last.
+abbrev pub Stated : List ℕ → Here → List ℕ → Limits → ℕ → Read → List ℕ → Type 0
+Stated s h t l start r t′ =
+    (f : Phrase) (d : Counts) (ks : List Left) (e k : ℕ) (w : Option ℕ) → f .text ≡ s → d ≡ counts l
+    → Going f (at d (a STATEMENTS ∷ closes close-brace ∷ row 35 ∷ []) ∷ ks) h t (many start e 0 w) 0 k
+    → Partly f r t′ (λ m h′. Going f (at (after closes-bracket d) [] ∷ ks) h′ t′ (lone (m .kind) (m .start) (m .end)) 0 k)
+
+abbrev pub stateLeft : ℕ → List Symbol
+stateLeft zero = a STATEMENTS ∷ []
+stateLeft (suc zero) = a AFTER-FOUR ∷ []
+stateLeft (suc (suc n)) = a AFTER-EXPR ∷ []
+
+pub record Ended (f : Phrase) (d : Counts) (ks : List Left) (x c k n : ℕ) (h : Here) (t : List ℕ) : Type 0 where
+  pub end : ℕ
+  pub sign : Option ℕ
+  pub two : n ≤ 2
+  pub unended : 0 ≢ n → h .word ≢ 47
+  pub going : Going f (at d (stateLeft n) ∷ ks) h t (many x end (c + 1) sign) 0 k
+
+abbrev pub Statement : List Symbol → List ℕ → Here → List ℕ → Limits → Read → List ℕ → Type 0
+Statement symbols s h t l r t′ =
+    (f : Phrase) (d : Counts) (ks : List Left) (x e c k : ℕ) (w : Option ℕ) → f .text ≡ s → d ≡ counts l
+    → Going f (at d symbols ∷ ks) h t (many x e c w) 0 k
+    → Partly f r t′ (λ m h′. Ended f d ks x c k (m .children) h′ t′)
+
+-- A reader that has answered `Done` stands further on than before.
+abbrev pub Beyond : List ℕ → Here → Read → Type 0
+Beyond s h (Done m z) = Stands s z × (h .next < z .next)
+Beyond s h (Refused e) = Prim.Unit {0}
+
+-- A whole source: its rows and where they stand in the table, or the refusal that document 01 determines (1 where the
+-- source is too long).
+abbrev pub FinishedIs : Bool → List ℕ → List ℕ → Read → List ℕ → Type 0
+FinishedIs tree s t (Done m h) t′ = (rs : List grammar.Row) × answers.Answers (source s) true tree (length s) 0 (accepted rs) × (h .rows ≡ length rs) × (t′ ≡ store t 0 rs)
+FinishedIs tree s t (Refused e) t′ = answers.Answers (source s) true tree (length s) 0 (refused (record { number = e .number; start = e .start; end = e .end })) × (length t′ ≡ length t)
+
+pub record Finished (tree : Bool) (s t : List ℕ) (r : Read) (t′ : List ℕ) : Type 0 where
+  pub short : length s ≤ 65535 → FinishedIs tree s t r t′
+  pub long : T (ltb 65535 (length s)) → (r ≡ Refused (refusalAt 1 65535 65535)) × (t′ ≡ t)

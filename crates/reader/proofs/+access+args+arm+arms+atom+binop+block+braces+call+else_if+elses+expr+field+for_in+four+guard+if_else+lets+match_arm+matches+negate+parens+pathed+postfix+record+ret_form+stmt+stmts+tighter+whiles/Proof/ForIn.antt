@@ -1,0 +1,681 @@
+use borrow.Author.Needs.{needs}
+use native.Mathlib.Omega.{arith}
+use Prim.Native.Nat.{ℕ}
+use Rattle.parser.specs.declared.Limits.{Limits}
+use mathlib.Core.Path.{refl, ap, _∙_}
+use Rattle.parser.proofs.Standing.{next-small}
+use Rattle.promises.proofs.Alternatives.{four-for-on}
+use Rattle.promises.proofs.Answered.{further}
+use Rattle.promises.proofs.Heads.{under-past, head-on, head-off, head-stands, head-expr-fails, head-body-fails, head-ends, for-name-fails, for-in-fails, for-on}
+use Rattle.reader.proofs.block.Reads as block
+use Rattle.reader.proofs.expr.Reads as expr
+use Rattle.reader.proofs.for_in.Reads as for-in
+use Rattle.reader.proofs.+access+args+arm+arms+atom+binop+block+braces+call+else_if+elses+expr+field+for_in+four+guard+if_else+lets+match_arm+matches+negate+parens+pathed+postfix+record+ret_form+stmt+stmts+tighter+whiles.Lts-for_in as for-in-lts
+use Rattle.parser.proofs.Limits.headed.Reads as headed-reads
+use Rattle.parser.proofs.Limits.unchained.Reads as unchained-reads
+use Rattle.parser.proofs.deeper.Reads as deeper-reads
+use Rattle.parser.proofs.expect.Reads as expect-reads
+use Rattle.parser.proofs.finish.Reads as finish-reads
+use Rattle.parser.proofs.plain_row.Reads as plain-row-reads
+use Rattle.reader.proofs.identifier.Reads as identifier-reads
+use Rattle.reader.proofs.+access+args+arm+arms+atom+binop+block+braces+call+else_if+elses+expr+field+for_in+four+guard+if_else+lets+match_arm+matches+negate+parens+pathed+postfix+record+ret_form+stmt+stmts+tighter+whiles.Proof.Measures.{block-below, expr-below, for-in-at}
+
+pub for-in-unchained-requires : (t : ℕ) → for-in-lts.Need-unchained-requires (
+  unchained-reads.Asked,
+  unchained-reads.Learnt,
+  deeper-reads.Asked,
+  deeper-reads.Learnt,
+  identifier-reads.Asked,
+  identifier-reads.Learnt,
+  expect-reads.Asked,
+  expect-reads.Learnt,
+  headed-reads.Asked,
+  headed-reads.Learnt,
+  expr-below t,
+  expr.Post,
+  block-below t,
+  block.Post,
+  plain-row-reads.Asked,
+  plain-row-reads.Learnt,
+  finish-reads.Asked,
+  finish-reads.Learnt,
+) (for-in-at t) for-in.Post
+for-in-unchained-requires t c κs = search needs
+
+pub for-in-deeper-requires : (t : ℕ) → for-in-lts.Need-deeper-requires (
+  unchained-reads.Asked,
+  unchained-reads.Learnt,
+  deeper-reads.Asked,
+  deeper-reads.Learnt,
+  identifier-reads.Asked,
+  identifier-reads.Learnt,
+  expect-reads.Asked,
+  expect-reads.Learnt,
+  headed-reads.Asked,
+  headed-reads.Learnt,
+  expr-below t,
+  expr.Post,
+  block-below t,
+  block.Post,
+  plain-row-reads.Asked,
+  plain-row-reads.Learnt,
+  finish-reads.Asked,
+  finish-reads.Learnt,
+) (for-in-at t) for-in.Post
+for-in-deeper-requires t c κs = search needs
+
+pub for-in-enum-known-r : (t : ℕ) → for-in-lts.Need-enum-known-r (
+  unchained-reads.Asked,
+  unchained-reads.Learnt,
+  deeper-reads.Asked,
+  deeper-reads.Learnt,
+  identifier-reads.Asked,
+  identifier-reads.Learnt,
+  expect-reads.Asked,
+  expect-reads.Learnt,
+  headed-reads.Asked,
+  headed-reads.Learnt,
+  expr-below t,
+  expr.Post,
+  block-below t,
+  block.Post,
+  plain-row-reads.Asked,
+  plain-row-reads.Learnt,
+  finish-reads.Asked,
+  finish-reads.Learnt,
+) (for-in-at t) for-in.Post
+for-in-enum-known-r t c = search needs
+
+pub for-in-enum-told : (t : ℕ) → for-in-lts.Need-enum-told (
+  unchained-reads.Asked,
+  unchained-reads.Learnt,
+  deeper-reads.Asked,
+  deeper-reads.Learnt,
+  identifier-reads.Asked,
+  identifier-reads.Learnt,
+  expect-reads.Asked,
+  expect-reads.Learnt,
+  headed-reads.Asked,
+  headed-reads.Learnt,
+  expr-below t,
+  expr.Post,
+  block-below t,
+  block.Post,
+  plain-row-reads.Asked,
+  plain-row-reads.Learnt,
+  finish-reads.Asked,
+  finish-reads.Learnt,
+) (for-in-at t) for-in.Post
+for-in-enum-told t c = search needs
+
+pub for-in-returns : (t : ℕ) → for-in-lts.Need-returns (
+  unchained-reads.Asked,
+  unchained-reads.Learnt,
+  deeper-reads.Asked,
+  deeper-reads.Learnt,
+  identifier-reads.Asked,
+  identifier-reads.Learnt,
+  expect-reads.Asked,
+  expect-reads.Learnt,
+  headed-reads.Asked,
+  headed-reads.Learnt,
+  expr-below t,
+  expr.Post,
+  block-below t,
+  block.Post,
+  plain-row-reads.Asked,
+  plain-row-reads.Learnt,
+  finish-reads.Asked,
+  finish-reads.Learnt,
+) (for-in-at t) for-in.Post
+for-in-returns t c = head-off (c .before .before .before .before .before .before .pre .1 .0) (c .before .before .before .unchained .ensures) (c .before .before .deeper .ensures) four-for-on tt (c .before .before .before .before .before .before .pre .1 .1) (c .enum-told .given .1)
+
+pub for-in-identifier-requires : (t : ℕ) → for-in-lts.Need-identifier-requires (
+  unchained-reads.Asked,
+  unchained-reads.Learnt,
+  deeper-reads.Asked,
+  deeper-reads.Learnt,
+  identifier-reads.Asked,
+  identifier-reads.Learnt,
+  expect-reads.Asked,
+  expect-reads.Learnt,
+  headed-reads.Asked,
+  headed-reads.Learnt,
+  expr-below t,
+  expr.Post,
+  block-below t,
+  block.Post,
+  plain-row-reads.Asked,
+  plain-row-reads.Learnt,
+  finish-reads.Asked,
+  finish-reads.Learnt,
+) (for-in-at t) for-in.Post
+for-in-identifier-requires t c κs = under-past 67 _ (c .before .before .before .before .before .before .before .before .pre .1 .0) tt (c .before .before .before .before .before .before .before .before .pre .1 .1) (c .before .before .before .before .deeper .ensures) (c .before .before .r .given .1) .0
+
+pub for-in-enum-known-r-2 : (t : ℕ) → for-in-lts.Need-enum-known-r-2 (
+  unchained-reads.Asked,
+  unchained-reads.Learnt,
+  deeper-reads.Asked,
+  deeper-reads.Learnt,
+  identifier-reads.Asked,
+  identifier-reads.Learnt,
+  expect-reads.Asked,
+  expect-reads.Learnt,
+  headed-reads.Asked,
+  headed-reads.Learnt,
+  expr-below t,
+  expr.Post,
+  block-below t,
+  block.Post,
+  plain-row-reads.Asked,
+  plain-row-reads.Learnt,
+  finish-reads.Asked,
+  finish-reads.Learnt,
+) (for-in-at t) for-in.Post
+for-in-enum-known-r-2 t c = search needs
+
+pub for-in-enum-told-2 : (t : ℕ) → for-in-lts.Need-enum-told-2 (
+  unchained-reads.Asked,
+  unchained-reads.Learnt,
+  deeper-reads.Asked,
+  deeper-reads.Learnt,
+  identifier-reads.Asked,
+  identifier-reads.Learnt,
+  expect-reads.Asked,
+  expect-reads.Learnt,
+  headed-reads.Asked,
+  headed-reads.Learnt,
+  expr-below t,
+  expr.Post,
+  block-below t,
+  block.Post,
+  plain-row-reads.Asked,
+  plain-row-reads.Learnt,
+  finish-reads.Asked,
+  finish-reads.Learnt,
+) (for-in-at t) for-in.Post
+for-in-enum-told-2 t c = search needs
+
+pub for-in-same-length : (t : ℕ) → for-in-lts.Need-same-length (
+  unchained-reads.Asked,
+  unchained-reads.Learnt,
+  deeper-reads.Asked,
+  deeper-reads.Learnt,
+  identifier-reads.Asked,
+  identifier-reads.Learnt,
+  expect-reads.Asked,
+  expect-reads.Learnt,
+  headed-reads.Asked,
+  headed-reads.Learnt,
+  expr-below t,
+  expr.Post,
+  block-below t,
+  block.Post,
+  plain-row-reads.Asked,
+  plain-row-reads.Learnt,
+  finish-reads.Asked,
+  finish-reads.Learnt,
+) (for-in-at t) for-in.Post
+for-in-same-length t c = c .before .before .before .before .identifier .kept .1 .0
+
+pub for-in-returns-2 : (t : ℕ) → for-in-lts.Need-returns-2 (
+  unchained-reads.Asked,
+  unchained-reads.Learnt,
+  deeper-reads.Asked,
+  deeper-reads.Learnt,
+  identifier-reads.Asked,
+  identifier-reads.Learnt,
+  expect-reads.Asked,
+  expect-reads.Learnt,
+  headed-reads.Asked,
+  headed-reads.Learnt,
+  expr-below t,
+  expr.Post,
+  block-below t,
+  block.Post,
+  plain-row-reads.Asked,
+  plain-row-reads.Learnt,
+  finish-reads.Asked,
+  finish-reads.Learnt,
+) (for-in-at t) for-in.Post
+for-in-returns-2 t c = for-name-fails (head-on (c .before .before .before .before .before .before .before .before .before .before .before .before .before .pre .1 .0) (c .before .before .before .before .before .before .before .before .before .before .unchained .ensures) (c .before .before .before .before .before .before .before .before .before .deeper .ensures) four-for-on tt (c .before .before .before .before .before .before .before .before .before .before .before .before .before .pre .1 .1) (c .before .before .before .before .before .before .before .r .given .1)) (c .before .before .before .before .identifier .ensures .0) (c .enum-told2 .given .1)
+
+pub for-in-expect-requires : (t : ℕ) → for-in-lts.Need-expect-requires (
+  unchained-reads.Asked,
+  unchained-reads.Learnt,
+  deeper-reads.Asked,
+  deeper-reads.Learnt,
+  identifier-reads.Asked,
+  identifier-reads.Learnt,
+  expect-reads.Asked,
+  expect-reads.Learnt,
+  headed-reads.Asked,
+  headed-reads.Learnt,
+  expr-below t,
+  expr.Post,
+  block-below t,
+  block.Post,
+  plain-row-reads.Asked,
+  plain-row-reads.Learnt,
+  finish-reads.Asked,
+  finish-reads.Learnt,
+) (for-in-at t) for-in.Post
+for-in-expect-requires t c κs = search needs
+
+pub for-in-enum-known-r-3 : (t : ℕ) → for-in-lts.Need-enum-known-r-3 (
+  unchained-reads.Asked,
+  unchained-reads.Learnt,
+  deeper-reads.Asked,
+  deeper-reads.Learnt,
+  identifier-reads.Asked,
+  identifier-reads.Learnt,
+  expect-reads.Asked,
+  expect-reads.Learnt,
+  headed-reads.Asked,
+  headed-reads.Learnt,
+  expr-below t,
+  expr.Post,
+  block-below t,
+  block.Post,
+  plain-row-reads.Asked,
+  plain-row-reads.Learnt,
+  finish-reads.Asked,
+  finish-reads.Learnt,
+) (for-in-at t) for-in.Post
+for-in-enum-known-r-3 t c = search needs
+
+pub for-in-enum-told-3 : (t : ℕ) → for-in-lts.Need-enum-told-3 (
+  unchained-reads.Asked,
+  unchained-reads.Learnt,
+  deeper-reads.Asked,
+  deeper-reads.Learnt,
+  identifier-reads.Asked,
+  identifier-reads.Learnt,
+  expect-reads.Asked,
+  expect-reads.Learnt,
+  headed-reads.Asked,
+  headed-reads.Learnt,
+  expr-below t,
+  expr.Post,
+  block-below t,
+  block.Post,
+  plain-row-reads.Asked,
+  plain-row-reads.Learnt,
+  finish-reads.Asked,
+  finish-reads.Learnt,
+) (for-in-at t) for-in.Post
+for-in-enum-told-3 t c = search needs
+
+pub for-in-same-length-2 : (t : ℕ) → for-in-lts.Need-same-length-2 (
+  unchained-reads.Asked,
+  unchained-reads.Learnt,
+  deeper-reads.Asked,
+  deeper-reads.Learnt,
+  identifier-reads.Asked,
+  identifier-reads.Learnt,
+  expect-reads.Asked,
+  expect-reads.Learnt,
+  headed-reads.Asked,
+  headed-reads.Learnt,
+  expr-below t,
+  expr.Post,
+  block-below t,
+  block.Post,
+  plain-row-reads.Asked,
+  plain-row-reads.Learnt,
+  finish-reads.Asked,
+  finish-reads.Learnt,
+) (for-in-at t) for-in.Post
+for-in-same-length-2 t c = c .before .before .before .before .before .before .before .before .identifier .kept .1 .0
+
+pub for-in-returns-3 : (t : ℕ) → for-in-lts.Need-returns-3 (
+  unchained-reads.Asked,
+  unchained-reads.Learnt,
+  deeper-reads.Asked,
+  deeper-reads.Learnt,
+  identifier-reads.Asked,
+  identifier-reads.Learnt,
+  expect-reads.Asked,
+  expect-reads.Learnt,
+  headed-reads.Asked,
+  headed-reads.Learnt,
+  expr-below t,
+  expr.Post,
+  block-below t,
+  block.Post,
+  plain-row-reads.Asked,
+  plain-row-reads.Learnt,
+  finish-reads.Asked,
+  finish-reads.Learnt,
+) (for-in-at t) for-in.Post
+for-in-returns-3 t c = for-in-fails (head-on (c .before .before .before .before .before .before .before .before .before .before .before .before .before .before .before .before .before .pre .1 .0) (c .before .before .before .before .before .before .before .before .before .before .before .before .before .before .unchained .ensures) (c .before .before .before .before .before .before .before .before .before .before .before .before .before .deeper .ensures) four-for-on tt (c .before .before .before .before .before .before .before .before .before .before .before .before .before .before .before .before .before .pre .1 .1) (c .before .before .before .before .before .before .before .before .before .before .before .r .given .1)) (c .before .before .before .before .before .before .before .before .identifier .ensures .0) (c .before .before .before .before .r2 .given .1) (c .before .before .expect .ensures) (c .enum-told3 .given .1)
+
+pub for-in-headed-requires : (t : ℕ) → for-in-lts.Need-headed-requires (
+  unchained-reads.Asked,
+  unchained-reads.Learnt,
+  deeper-reads.Asked,
+  deeper-reads.Learnt,
+  identifier-reads.Asked,
+  identifier-reads.Learnt,
+  expect-reads.Asked,
+  expect-reads.Learnt,
+  headed-reads.Asked,
+  headed-reads.Learnt,
+  expr-below t,
+  expr.Post,
+  block-below t,
+  block.Post,
+  plain-row-reads.Asked,
+  plain-row-reads.Learnt,
+  finish-reads.Asked,
+  finish-reads.Learnt,
+) (for-in-at t) for-in.Post
+for-in-headed-requires t c κs = search needs
+
+pub for-in-expr-requires : (t : ℕ) → for-in-lts.Need-expr-requires (
+  unchained-reads.Asked,
+  unchained-reads.Learnt,
+  deeper-reads.Asked,
+  deeper-reads.Learnt,
+  identifier-reads.Asked,
+  identifier-reads.Learnt,
+  expect-reads.Asked,
+  expect-reads.Learnt,
+  headed-reads.Asked,
+  headed-reads.Learnt,
+  expr-below t,
+  expr.Post,
+  block-below t,
+  block.Post,
+  plain-row-reads.Asked,
+  plain-row-reads.Learnt,
+  finish-reads.Asked,
+  finish-reads.Learnt,
+) (for-in-at t) for-in.Post
+for-in-expr-requires t c κs = let x = head-stands (for-on (head-on {l = c .before .before .before .before .before .before .before .before .before .before .before .before .before .before .before .before .before .before .before .before .args .limits} (c .before .before .before .before .before .before .before .before .before .before .before .before .before .before .before .before .before .before .before .before .pre .1 .0) (c .before .before .before .before .before .before .before .before .before .before .before .before .before .before .before .before .before .unchained .ensures) (c .before .before .before .before .before .before .before .before .before .before .before .before .before .before .before .before .deeper .ensures) four-for-on tt (c .before .before .before .before .before .before .before .before .before .before .before .before .before .before .before .before .before .before .before .before .pre .1 .1) (c .before .before .before .before .before .before .before .before .before .before .before .before .before .before .r .given .1)) (c .before .before .before .before .before .before .before .before .before .before .before .identifier .ensures .0) (c .before .before .before .before .before .before .before .r2 .given .1) (c .before .before .before .before .before .expect .ensures) (ap (λ (l : Limits). l .signs) (c .before .before .before .before .before .before .before .before .before .before .before .before .before .before .before .before .before .unchained .ensures)) (c .before .before .before .r3 .given .1)) in (omega (arith, x .1, next-small (x .0), x .0 .short, c .before .before .before .before .before .before .before .before .before .before .before .before .before .before .before .before .before .before .before .before .pre .0), x .0)
+
+pub for-in-enum-known-r-4 : (t : ℕ) → for-in-lts.Need-enum-known-r-4 (
+  unchained-reads.Asked,
+  unchained-reads.Learnt,
+  deeper-reads.Asked,
+  deeper-reads.Learnt,
+  identifier-reads.Asked,
+  identifier-reads.Learnt,
+  expect-reads.Asked,
+  expect-reads.Learnt,
+  headed-reads.Asked,
+  headed-reads.Learnt,
+  expr-below t,
+  expr.Post,
+  block-below t,
+  block.Post,
+  plain-row-reads.Asked,
+  plain-row-reads.Learnt,
+  finish-reads.Asked,
+  finish-reads.Learnt,
+) (for-in-at t) for-in.Post
+for-in-enum-known-r-4 t c = search needs
+
+pub for-in-enum-told-4 : (t : ℕ) → for-in-lts.Need-enum-told-4 (
+  unchained-reads.Asked,
+  unchained-reads.Learnt,
+  deeper-reads.Asked,
+  deeper-reads.Learnt,
+  identifier-reads.Asked,
+  identifier-reads.Learnt,
+  expect-reads.Asked,
+  expect-reads.Learnt,
+  headed-reads.Asked,
+  headed-reads.Learnt,
+  expr-below t,
+  expr.Post,
+  block-below t,
+  block.Post,
+  plain-row-reads.Asked,
+  plain-row-reads.Learnt,
+  finish-reads.Asked,
+  finish-reads.Learnt,
+) (for-in-at t) for-in.Post
+for-in-enum-told-4 t c = search needs
+
+pub for-in-same-length-3 : (t : ℕ) → for-in-lts.Need-same-length-3 (
+  unchained-reads.Asked,
+  unchained-reads.Learnt,
+  deeper-reads.Asked,
+  deeper-reads.Learnt,
+  identifier-reads.Asked,
+  identifier-reads.Learnt,
+  expect-reads.Asked,
+  expect-reads.Learnt,
+  headed-reads.Asked,
+  headed-reads.Learnt,
+  expr-below t,
+  expr.Post,
+  block-below t,
+  block.Post,
+  plain-row-reads.Asked,
+  plain-row-reads.Learnt,
+  finish-reads.Asked,
+  finish-reads.Learnt,
+) (for-in-at t) for-in.Post
+for-in-same-length-3 t c = c .before .before .before .before .expr .kept .1 .0 ∙ c .before .before .before .before .before .before .before .before .before .before .before .before .before .before .before .before .identifier .kept .1 .0
+
+pub for-in-returns-4 : (t : ℕ) → for-in-lts.Need-returns-4 (
+  unchained-reads.Asked,
+  unchained-reads.Learnt,
+  deeper-reads.Asked,
+  deeper-reads.Learnt,
+  identifier-reads.Asked,
+  identifier-reads.Learnt,
+  expect-reads.Asked,
+  expect-reads.Learnt,
+  headed-reads.Asked,
+  headed-reads.Learnt,
+  expr-below t,
+  expr.Post,
+  block-below t,
+  block.Post,
+  plain-row-reads.Asked,
+  plain-row-reads.Learnt,
+  finish-reads.Asked,
+  finish-reads.Learnt,
+) (for-in-at t) for-in.Post
+for-in-returns-4 t c = head-expr-fails (c .before .before .before .before .before .headed .ensures) (c .before .before .before .before .expr .ensures) (for-on (head-on (c .before .before .before .before .before .before .before .before .before .before .before .before .before .before .before .before .before .before .before .before .before .before .before .before .before .pre .1 .0) (c .before .before .before .before .before .before .before .before .before .before .before .before .before .before .before .before .before .before .before .before .before .before .unchained .ensures) (c .before .before .before .before .before .before .before .before .before .before .before .before .before .before .before .before .before .before .before .before .before .deeper .ensures) four-for-on tt (c .before .before .before .before .before .before .before .before .before .before .before .before .before .before .before .before .before .before .before .before .before .before .before .before .before .pre .1 .1) (c .before .before .before .before .before .before .before .before .before .before .before .before .before .before .before .before .before .before .before .r .given .1)) (c .before .before .before .before .before .before .before .before .before .before .before .before .before .before .before .before .identifier .ensures .0) (c .before .before .before .before .before .before .before .before .before .before .before .before .r2 .given .1) (c .before .before .before .before .before .before .before .before .before .before .expect .ensures) (ap (λ (l : Limits). l .signs) (c .before .before .before .before .before .before .before .before .before .before .before .before .before .before .before .before .before .before .before .before .before .before .unchained .ensures)) (c .before .before .before .before .before .before .before .before .r3 .given .1)) (c .enum-told4 .given .1)
+
+pub for-in-block-requires : (t : ℕ) → for-in-lts.Need-block-requires (
+  unchained-reads.Asked,
+  unchained-reads.Learnt,
+  deeper-reads.Asked,
+  deeper-reads.Learnt,
+  identifier-reads.Asked,
+  identifier-reads.Learnt,
+  expect-reads.Asked,
+  expect-reads.Learnt,
+  headed-reads.Asked,
+  headed-reads.Learnt,
+  expr-below t,
+  expr.Post,
+  block-below t,
+  block.Post,
+  plain-row-reads.Asked,
+  plain-row-reads.Learnt,
+  finish-reads.Asked,
+  finish-reads.Learnt,
+) (for-in-at t) for-in.Post
+for-in-block-requires t c κs = let x = head-stands (for-on (head-on {l = c .before .before .before .before .before .before .before .before .before .before .before .before .before .before .before .before .before .before .before .before .before .before .before .before .before .before .before .args .limits} (c .before .before .before .before .before .before .before .before .before .before .before .before .before .before .before .before .before .before .before .before .before .before .before .before .before .before .before .pre .1 .0) (c .before .before .before .before .before .before .before .before .before .before .before .before .before .before .before .before .before .before .before .before .before .before .before .before .unchained .ensures) (c .before .before .before .before .before .before .before .before .before .before .before .before .before .before .before .before .before .before .before .before .before .before .before .deeper .ensures) four-for-on tt (c .before .before .before .before .before .before .before .before .before .before .before .before .before .before .before .before .before .before .before .before .before .before .before .before .before .before .before .pre .1 .1) (c .before .before .before .before .before .before .before .before .before .before .before .before .before .before .before .before .before .before .before .before .before .r .given .1)) (c .before .before .before .before .before .before .before .before .before .before .before .before .before .before .before .before .before .before .identifier .ensures .0) (c .before .before .before .before .before .before .before .before .before .before .before .before .before .before .r2 .given .1) (c .before .before .before .before .before .before .before .before .before .before .before .before .expect .ensures) (ap (λ (l : Limits). l .signs) (c .before .before .before .before .before .before .before .before .before .before .before .before .before .before .before .before .before .before .before .before .before .before .before .before .unchained .ensures)) (c .before .before .before .before .before .before .before .before .before .before .r3 .given .1)) in let y = further (c .before .before .before .before .before .before .expr .ensures) (c .before .before .r4 .given .1) in (omega (arith, x .1, y .next, next-small (y .stands), y .stands .short, c .before .before .before .before .before .before .before .before .before .before .before .before .before .before .before .before .before .before .before .before .before .before .before .before .before .before .before .pre .0), y .stands)
+
+pub for-in-enum-known-r-5 : (t : ℕ) → for-in-lts.Need-enum-known-r-5 (
+  unchained-reads.Asked,
+  unchained-reads.Learnt,
+  deeper-reads.Asked,
+  deeper-reads.Learnt,
+  identifier-reads.Asked,
+  identifier-reads.Learnt,
+  expect-reads.Asked,
+  expect-reads.Learnt,
+  headed-reads.Asked,
+  headed-reads.Learnt,
+  expr-below t,
+  expr.Post,
+  block-below t,
+  block.Post,
+  plain-row-reads.Asked,
+  plain-row-reads.Learnt,
+  finish-reads.Asked,
+  finish-reads.Learnt,
+) (for-in-at t) for-in.Post
+for-in-enum-known-r-5 t c = search needs
+
+pub for-in-enum-told-5 : (t : ℕ) → for-in-lts.Need-enum-told-5 (
+  unchained-reads.Asked,
+  unchained-reads.Learnt,
+  deeper-reads.Asked,
+  deeper-reads.Learnt,
+  identifier-reads.Asked,
+  identifier-reads.Learnt,
+  expect-reads.Asked,
+  expect-reads.Learnt,
+  headed-reads.Asked,
+  headed-reads.Learnt,
+  expr-below t,
+  expr.Post,
+  block-below t,
+  block.Post,
+  plain-row-reads.Asked,
+  plain-row-reads.Learnt,
+  finish-reads.Asked,
+  finish-reads.Learnt,
+) (for-in-at t) for-in.Post
+for-in-enum-told-5 t c = search needs
+
+pub for-in-same-length-4 : (t : ℕ) → for-in-lts.Need-same-length-4 (
+  unchained-reads.Asked,
+  unchained-reads.Learnt,
+  deeper-reads.Asked,
+  deeper-reads.Learnt,
+  identifier-reads.Asked,
+  identifier-reads.Learnt,
+  expect-reads.Asked,
+  expect-reads.Learnt,
+  headed-reads.Asked,
+  headed-reads.Learnt,
+  expr-below t,
+  expr.Post,
+  block-below t,
+  block.Post,
+  plain-row-reads.Asked,
+  plain-row-reads.Learnt,
+  finish-reads.Asked,
+  finish-reads.Learnt,
+) (for-in-at t) for-in.Post
+for-in-same-length-4 t c = c .before .before .before .before .block .kept .1 .0 ∙ c .before .before .before .before .before .before .before .before .before .before .before .expr .kept .1 .0 ∙ c .before .before .before .before .before .before .before .before .before .before .before .before .before .before .before .before .before .before .before .before .before .before .before .identifier .kept .1 .0
+
+pub for-in-returns-5 : (t : ℕ) → for-in-lts.Need-returns-5 (
+  unchained-reads.Asked,
+  unchained-reads.Learnt,
+  deeper-reads.Asked,
+  deeper-reads.Learnt,
+  identifier-reads.Asked,
+  identifier-reads.Learnt,
+  expect-reads.Asked,
+  expect-reads.Learnt,
+  headed-reads.Asked,
+  headed-reads.Learnt,
+  expr-below t,
+  expr.Post,
+  block-below t,
+  block.Post,
+  plain-row-reads.Asked,
+  plain-row-reads.Learnt,
+  finish-reads.Asked,
+  finish-reads.Learnt,
+) (for-in-at t) for-in.Post
+for-in-returns-5 t c = head-body-fails (c .before .before .before .before .before .before .before .before .before .before .before .before .headed .ensures) (c .before .before .before .before .before .before .before .before .before .before .before .expr .ensures) (for-on (head-on (c .before .before .before .before .before .before .before .before .before .before .before .before .before .before .before .before .before .before .before .before .before .before .before .before .before .before .before .before .before .before .before .before .pre .1 .0) (c .before .before .before .before .before .before .before .before .before .before .before .before .before .before .before .before .before .before .before .before .before .before .before .before .before .before .before .before .before .unchained .ensures) (c .before .before .before .before .before .before .before .before .before .before .before .before .before .before .before .before .before .before .before .before .before .before .before .before .before .before .before .before .deeper .ensures) four-for-on tt (c .before .before .before .before .before .before .before .before .before .before .before .before .before .before .before .before .before .before .before .before .before .before .before .before .before .before .before .before .before .before .before .before .pre .1 .1) (c .before .before .before .before .before .before .before .before .before .before .before .before .before .before .before .before .before .before .before .before .before .before .before .before .before .before .r .given .1)) (c .before .before .before .before .before .before .before .before .before .before .before .before .before .before .before .before .before .before .before .before .before .before .before .identifier .ensures .0) (c .before .before .before .before .before .before .before .before .before .before .before .before .before .before .before .before .before .before .before .r2 .given .1) (c .before .before .before .before .before .before .before .before .before .before .before .before .before .before .before .before .before .expect .ensures) (ap (λ (l : Limits). l .signs) (c .before .before .before .before .before .before .before .before .before .before .before .before .before .before .before .before .before .before .before .before .before .before .before .before .before .before .before .before .before .unchained .ensures)) (c .before .before .before .before .before .before .before .before .before .before .before .before .before .before .before .r3 .given .1)) (c .before .before .before .before .before .before .before .r4 .given .1) (c .before .before .before .before .block .ensures) (c .enum-told5 .given .1)
+
+pub for-in-plain-row-requires : (t : ℕ) → for-in-lts.Need-plain-row-requires (
+  unchained-reads.Asked,
+  unchained-reads.Learnt,
+  deeper-reads.Asked,
+  deeper-reads.Learnt,
+  identifier-reads.Asked,
+  identifier-reads.Learnt,
+  expect-reads.Asked,
+  expect-reads.Learnt,
+  headed-reads.Asked,
+  headed-reads.Learnt,
+  expr-below t,
+  expr.Post,
+  block-below t,
+  block.Post,
+  plain-row-reads.Asked,
+  plain-row-reads.Learnt,
+  finish-reads.Asked,
+  finish-reads.Learnt,
+) (for-in-at t) for-in.Post
+for-in-plain-row-requires t c κs = search needs
+
+pub for-in-finish-requires : (t : ℕ) → for-in-lts.Need-finish-requires (
+  unchained-reads.Asked,
+  unchained-reads.Learnt,
+  deeper-reads.Asked,
+  deeper-reads.Learnt,
+  identifier-reads.Asked,
+  identifier-reads.Learnt,
+  expect-reads.Asked,
+  expect-reads.Learnt,
+  headed-reads.Asked,
+  headed-reads.Learnt,
+  expr-below t,
+  expr.Post,
+  block-below t,
+  block.Post,
+  plain-row-reads.Asked,
+  plain-row-reads.Learnt,
+  finish-reads.Asked,
+  finish-reads.Learnt,
+) (for-in-at t) for-in.Post
+for-in-finish-requires t c κs = search needs
+
+pub for-in-same-length-5 : (t : ℕ) → for-in-lts.Need-same-length-5 (
+  unchained-reads.Asked,
+  unchained-reads.Learnt,
+  deeper-reads.Asked,
+  deeper-reads.Learnt,
+  identifier-reads.Asked,
+  identifier-reads.Learnt,
+  expect-reads.Asked,
+  expect-reads.Learnt,
+  headed-reads.Asked,
+  headed-reads.Learnt,
+  expr-below t,
+  expr.Post,
+  block-below t,
+  block.Post,
+  plain-row-reads.Asked,
+  plain-row-reads.Learnt,
+  finish-reads.Asked,
+  finish-reads.Learnt,
+) (for-in-at t) for-in.Post
+for-in-same-length-5 t c = c .before .before .finish .kept .0 ∙ c .before .before .before .before .before .before .before .before .before .before .block .kept .1 .0 ∙ c .before .before .before .before .before .before .before .before .before .before .before .before .before .before .before .before .before .expr .kept .1 .0 ∙ c .before .before .before .before .before .before .before .before .before .before .before .before .before .before .before .before .before .before .before .before .before .before .before .before .before .before .before .before .before .identifier .kept .1 .0
+
+pub for-in-returns-6 : (t : ℕ) → for-in-lts.Need-returns-6 (
+  unchained-reads.Asked,
+  unchained-reads.Learnt,
+  deeper-reads.Asked,
+  deeper-reads.Learnt,
+  identifier-reads.Asked,
+  identifier-reads.Learnt,
+  expect-reads.Asked,
+  expect-reads.Learnt,
+  headed-reads.Asked,
+  headed-reads.Learnt,
+  expr-below t,
+  expr.Post,
+  block-below t,
+  block.Post,
+  plain-row-reads.Asked,
+  plain-row-reads.Learnt,
+  finish-reads.Asked,
+  finish-reads.Learnt,
+) (for-in-at t) for-in.Post
+for-in-returns-6 t c = head-ends (c .before .before .before .before .before .before .before .before .before .before .before .before .before .before .before .before .before .before .headed .ensures) (c .before .before .before .before .before .before .before .before .before .before .before .before .before .before .before .before .before .expr .ensures) (for-on (head-on (c .before .before .before .before .before .before .before .before .before .before .before .before .before .before .before .before .before .before .before .before .before .before .before .before .before .before .before .before .before .before .before .before .before .before .before .before .before .before .pre .1 .0) (c .before .before .before .before .before .before .before .before .before .before .before .before .before .before .before .before .before .before .before .before .before .before .before .before .before .before .before .before .before .before .before .before .before .before .before .unchained .ensures) (c .before .before .before .before .before .before .before .before .before .before .before .before .before .before .before .before .before .before .before .before .before .before .before .before .before .before .before .before .before .before .before .before .before .before .deeper .ensures) four-for-on tt (c .before .before .before .before .before .before .before .before .before .before .before .before .before .before .before .before .before .before .before .before .before .before .before .before .before .before .before .before .before .before .before .before .before .before .before .before .before .before .pre .1 .1) (c .before .before .before .before .before .before .before .before .before .before .before .before .before .before .before .before .before .before .before .before .before .before .before .before .before .before .before .before .before .before .before .before .r .given .1)) (c .before .before .before .before .before .before .before .before .before .before .before .before .before .before .before .before .before .before .before .before .before .before .before .before .before .before .before .before .before .identifier .ensures .0) (c .before .before .before .before .before .before .before .before .before .before .before .before .before .before .before .before .before .before .before .before .before .before .before .before .before .r2 .given .1) (c .before .before .before .before .before .before .before .before .before .before .before .before .before .before .before .before .before .before .before .before .before .before .before .expect .ensures) (ap (λ (l : Limits). l .signs) (c .before .before .before .before .before .before .before .before .before .before .before .before .before .before .before .before .before .before .before .before .before .before .before .before .before .before .before .before .before .before .before .before .before .before .before .unchained .ensures)) (c .before .before .before .before .before .before .before .before .before .before .before .before .before .before .before .before .before .before .before .before .before .r3 .given .1)) (c .before .before .before .before .before .before .before .before .before .before .before .before .before .r4 .given .1) (c .before .before .before .before .before .before .before .before .before .before .block .ensures) (c .before .before .before .before .before .before .r5 .given .1) refl refl (c .before .before .before .plain-row .ensures) (c .before .before .finish .ensures .0) (c .before .before .finish .ensures .1)

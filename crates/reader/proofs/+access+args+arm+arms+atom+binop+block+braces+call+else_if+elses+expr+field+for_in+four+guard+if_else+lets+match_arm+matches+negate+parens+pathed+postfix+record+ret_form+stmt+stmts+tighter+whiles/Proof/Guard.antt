@@ -1,0 +1,157 @@
+use borrow.Author.Needs.{needs}
+use native.Mathlib.Omega.{arith}
+use Prim.Native.Nat.{ℕ}
+use mathlib.Core.List.{[], _∷_}
+use Rattle.parser.proofs.Standing.{next-small, past-word, is-word}
+use Rattle.promises.proofs.Arms.{guard-none, guard-fails, guard-ends}
+use Rattle.reader.proofs.expr.Reads as expr
+use Rattle.reader.proofs.guard.Reads as guard
+use Rattle.reader.proofs.+access+args+arm+arms+atom+binop+block+braces+call+else_if+elses+expr+field+for_in+four+guard+if_else+lets+match_arm+matches+negate+parens+pathed+postfix+record+ret_form+stmt+stmts+tighter+whiles.Lts-guard as guard-lts
+use Rattle.parser.proofs.Limits.plain.Reads as plain-reads
+use Rattle.parser.proofs.take.Reads as take-reads
+use Rattle.reader.proofs.part.Reads as part-reads
+use Rattle.reader.proofs.+access+args+arm+arms+atom+binop+block+braces+call+else_if+elses+expr+field+for_in+four+guard+if_else+lets+match_arm+matches+negate+parens+pathed+postfix+record+ret_form+stmt+stmts+tighter+whiles.Proof.Measures.{expr-below, guard-at}
+
+pub guard-part-requires : (t : ℕ) → guard-lts.Need-part-requires (
+  part-reads.Asked,
+  part-reads.Learnt,
+  take-reads.Asked,
+  take-reads.Learnt,
+  plain-reads.Asked,
+  plain-reads.Learnt,
+  expr-below t,
+  expr.Post,
+) (guard-at t) guard.Post
+guard-part-requires t c κs = search needs
+
+pub guard-returns : (t : ℕ) → guard-lts.Need-returns (
+  part-reads.Asked,
+  part-reads.Learnt,
+  take-reads.Asked,
+  take-reads.Learnt,
+  plain-reads.Asked,
+  plain-reads.Learnt,
+  expr-below t,
+  expr.Post,
+) (guard-at t) guard.Post
+guard-returns t c = guard-none (c .before .if1 .taken) (c .part .ensures)
+
+pub guard-take-requires : (t : ℕ) → guard-lts.Need-take-requires (
+  part-reads.Asked,
+  part-reads.Learnt,
+  take-reads.Asked,
+  take-reads.Learnt,
+  plain-reads.Asked,
+  plain-reads.Learnt,
+  expr-below t,
+  expr.Post,
+) (guard-at t) guard.Post
+guard-take-requires t c κs = search needs
+
+pub guard-plain-requires : (t : ℕ) → guard-lts.Need-plain-requires (
+  part-reads.Asked,
+  part-reads.Learnt,
+  take-reads.Asked,
+  take-reads.Learnt,
+  plain-reads.Asked,
+  plain-reads.Learnt,
+  expr-below t,
+  expr.Post,
+) (guard-at t) guard.Post
+guard-plain-requires t c κs = search needs
+
+pub guard-expr-requires : (t : ℕ) → guard-lts.Need-expr-requires (
+  part-reads.Asked,
+  part-reads.Learnt,
+  take-reads.Asked,
+  take-reads.Learnt,
+  plain-reads.Asked,
+  plain-reads.Learnt,
+  expr-below t,
+  expr.Post,
+) (guard-at t) guard.Post
+guard-expr-requires t c κs = let x = past-word (69 ∷ []) (c .before .before .before .before .before .before .before .pre .1) tt (is-word (c .before .before .before .if1 .left)) (c .before .before .take .ensures) in (omega (arith, x .1, next-small (x .0), x .0 .short, c .before .before .before .before .before .before .before .pre .0), x .0)
+
+pub guard-enum-known-r : (t : ℕ) → guard-lts.Need-enum-known-r (
+  part-reads.Asked,
+  part-reads.Learnt,
+  take-reads.Asked,
+  take-reads.Learnt,
+  plain-reads.Asked,
+  plain-reads.Learnt,
+  expr-below t,
+  expr.Post,
+) (guard-at t) guard.Post
+guard-enum-known-r t c = search needs
+
+pub guard-enum-told : (t : ℕ) → guard-lts.Need-enum-told (
+  part-reads.Asked,
+  part-reads.Learnt,
+  take-reads.Asked,
+  take-reads.Learnt,
+  plain-reads.Asked,
+  plain-reads.Learnt,
+  expr-below t,
+  expr.Post,
+) (guard-at t) guard.Post
+guard-enum-told t c = search needs
+
+pub guard-same-length : (t : ℕ) → guard-lts.Need-same-length (
+  part-reads.Asked,
+  part-reads.Learnt,
+  take-reads.Asked,
+  take-reads.Learnt,
+  plain-reads.Asked,
+  plain-reads.Learnt,
+  expr-below t,
+  expr.Post,
+) (guard-at t) guard.Post
+guard-same-length t c = c .before .before .before .before .expr .kept .1 .0
+
+pub guard-returns-2 : (t : ℕ) → guard-lts.Need-returns-2 (
+  part-reads.Asked,
+  part-reads.Learnt,
+  take-reads.Asked,
+  take-reads.Learnt,
+  plain-reads.Asked,
+  plain-reads.Learnt,
+  expr-below t,
+  expr.Post,
+) (guard-at t) guard.Post
+guard-returns-2 t c = guard-fails (c .before .before .before .before .before .before .before .before .if1 .left) (c .before .before .before .before .before .before .before .take .ensures) (c .before .before .before .before .before .plain .ensures) (c .before .before .before .before .expr .ensures) (c .enum-told .given .1)
+
+pub guard-part-requires-2 : (t : ℕ) → guard-lts.Need-part-requires-2 (
+  part-reads.Asked,
+  part-reads.Learnt,
+  take-reads.Asked,
+  take-reads.Learnt,
+  plain-reads.Asked,
+  plain-reads.Learnt,
+  expr-below t,
+  expr.Post,
+) (guard-at t) guard.Post
+guard-part-requires-2 t c κs = search needs
+
+pub guard-same-length-2 : (t : ℕ) → guard-lts.Need-same-length-2 (
+  part-reads.Asked,
+  part-reads.Learnt,
+  take-reads.Asked,
+  take-reads.Learnt,
+  plain-reads.Asked,
+  plain-reads.Learnt,
+  expr-below t,
+  expr.Post,
+) (guard-at t) guard.Post
+guard-same-length-2 t c = c .before .before .before .before .before .before .expr .kept .1 .0
+
+pub guard-returns-3 : (t : ℕ) → guard-lts.Need-returns-3 (
+  part-reads.Asked,
+  part-reads.Learnt,
+  take-reads.Asked,
+  take-reads.Learnt,
+  plain-reads.Asked,
+  plain-reads.Learnt,
+  expr-below t,
+  expr.Post,
+) (guard-at t) guard.Post
+guard-returns-3 t c = guard-ends (c .before .before .before .before .before .before .before .before .before .before .if1 .left) (c .before .before .before .before .before .before .before .before .before .take .ensures) (c .before .before .before .before .before .before .before .plain .ensures) (c .before .before .before .before .before .before .expr .ensures) (c .before .before .r .given .1) (c .part2 .ensures)

@@ -1,0 +1,15 @@
+use mathlib.Core.Path.{refl}
+use Rattle.words.proofs.Tests.{filter-second}
+use Rattle.reader.proofs.filter_detail.Statement.{statement}
+use Rattle.reader.proofs.filter_detail.Tie as tie
+use Rattle.reader.proofs.filter_detail.Reads as reads
+use Rattle.reader.proofs.filter_detail.Lts as lts
+
+returns : tie.Need-returns
+returns c = rw (c .if1 .taken) refl
+
+returns-2 : tie.Need-returns-2
+returns-2 c = filter-second _ (c .before .pre) (c .if1 .left)
+
+pub filter-detail-spec : {M : Type 1} → statement M
+filter-detail-spec = tie.close (tie.spec returns returns-2)

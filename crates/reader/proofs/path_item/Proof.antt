@@ -1,0 +1,35 @@
+use borrow.Author.Tests.{not-true, not-false}
+use Rattle.promises.proofs.Alternatives.{path-item-any}
+use Rattle.promises.proofs.Paths.{item-read, item-refused}
+use Rattle.words.proofs.Tests.{true-so, false-so}
+use borrow.Author.Needs.{needs}
+use Rattle.reader.proofs.path_item.Statement.{statement}
+use Rattle.reader.proofs.path_item.Tie as tie
+use Rattle.reader.proofs.path_item.Reads as reads
+use Rattle.reader.proofs.path_item.Lts as lts
+use Rattle.parser.proofs.unusable.Reads as unusable-reads
+use Rattle.words.proofs.is_path_item.Reads as is-path-item-reads
+use Rattle.reader.proofs.item.Reads as item-reads
+
+is-path-item-requires : tie.Need-is-path-item-requires
+is-path-item-requires c κs = search needs
+
+unusable-requires : tie.Need-unusable-requires
+unusable-requires c κs = search needs
+
+returns : tie.Need-returns
+returns c = λ d. item-refused path-item-any _ d _ _ (c .before .before .before .before .before .pre) (false-so (c .before .before .is-path-item .ensures) (not-true _ (c .before .if1 .taken))) (c .unusable .ensures)
+
+item-requires : tie.Need-item-requires
+item-requires c κs = search needs
+
+same-length : tie.Need-same-length
+same-length c = search needs
+
+returns-2 : tie.Need-returns-2
+returns-2 c = λ d. item-read path-item-any _ d _ _ (c .before .before .before .before .before .before .before .before .pre) tt (true-so (c .before .before .before .before .before .is-path-item .ensures) (not-false _ (c .before .before .before .before .if1 .left))) (c .before .before .item .ensures .0) (c .before .before .item .ensures .1)
+
+pub path-item-spec : {M : Type 1} → statement M
+path-item-spec =
+    tie.close
+    (tie.spec is-path-item-requires unusable-requires returns item-requires same-length returns-2)
