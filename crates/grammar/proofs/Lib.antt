@@ -16,3 +16,4 @@ pub mod Computed
 pub mod Picked
 pub mod Open
 pub mod Entry
+pub mod Sampled

@@ -14,3 +14,4 @@ pub mod Answers
 pub mod Phrases
 pub mod Compute
 pub mod Culprit
+pub mod Samples

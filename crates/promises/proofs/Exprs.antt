@@ -41,23 +41,6 @@ use Rattle.promises.specs.Promises.{the, LEVEL}
 use Rattle.promises.proofs.Answered.{further, done-is, finished, finished-in}
 use Rattle.promises.proofs.Alternatives.{but-for, expr-return-on, expr-side-on, returned-is, returned-on, returned-off, returned-any, assigned-on, assigned-off, binary-any, or-more-on, or-more-off, and-any, and-more-on, and-more-off, compare-any, compare-more-on, compare-more-off, sum-any, sum-more-on, sum-more-off, product-any, product-more-on, product-more-off, operand-not-on, operand-minus-on, rest-expr, rest-returned, rest-assigned, rest-binary, rest-or-more, rest-and, rest-and-more, rest-compare, rest-compare-more, rest-sum, rest-sum-more, rest-product, rest-product-more, rest-operand}
 
--- a test that was made: it holds; it doesn't
-pub true-so : {b c : Bool} → b ≡ c → b ≡ true → T c
-true-so e q = subst T (sym q ∙ e) tt
-
-pub false-so : {b c : Bool} → b ≡ c → b ≡ false → T c → ⊥
-false-so e q t = subst T (sym e ∙ q) t
-
-pub not-true-so : {b c : Bool} → b ≡ c → not b ≡ true → T c → ⊥
-not-true-so {b} e q t = subst (λ (x : Bool). T (not x)) (T→eq b (subst T (sym e) t)) (subst T (sym q) tt)
-
-pub not-false-so : {b c : Bool} → b ≡ c → not b ≡ false → T c
-not-false-so {b} e q = subst T e (so b q)
-  where
-    so : (b : Bool) → not b ≡ false → T b
-    so true q = tt
-    so false q = subst T q tt
-
 -- a word's place in a list is 0 exactly where it isn't there
 pub placed : (c : ℕ) (w : List ℕ) → place-in c w ≢ 0 → T (one-of c w)
 placed c [] n = absurd (n refl)

@@ -1,5 +1,6 @@
 pub mod Alternatives
 pub mod Partly
+pub mod Tests
 pub mod Answered
 pub mod Leaves
 pub mod Paths

@@ -94,13 +94,6 @@ first b h g = rw h g
 pub second : {A : Type 0} {t : Bool} (a : A) {b x : A} → t ≡ false → x ≡ b → x ≡ pick t a b
 second a h g = rw h g
 
--- what a test says, from what its function says
-pub true-so : {b c : Bool} → b ≡ c → b ≡ true → T c
-true-so e q = subst T (sym q ∙ e) tt
-
-pub false-so : {b c : Bool} → b ≡ c → b ≡ false → T c → ⊥
-false-so e q t = subst T (sym e ∙ q) t
-
 pub ends-with-records : (x : ℕ) {b r : Bool} → b ≡ true → r ≡ one-of x exprFirsts → not r ≡ endsReturn x b
 ends-with-records x e q = ap not q ∙ ap (endsReturn x) (sym e)
 

@@ -1,7 +1,7 @@
 use borrow.Author.Tests.{not-true, not-false}
+use Rattle.promises.proofs.Tests.{true-so, false-so}
 use Rattle.promises.proofs.Alternatives.{name-any, field-name-any}
 use Rattle.promises.proofs.Paths.{item-read, item-refused}
-use Rattle.words.proofs.Tests.{true-so, false-so}
 use borrow.Author.Needs.{needs}
 use Rattle.reader.proofs.identifier.Statement.{statement}
 use Rattle.reader.proofs.identifier.Tie as tie

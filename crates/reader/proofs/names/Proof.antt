@@ -3,8 +3,8 @@ use native.Mathlib.Omega.{arith}
 use mathlib.Core.Path.{refl, _∙_}
 use lib.ListN.{length}
 use Prim.Native.Nat.{_+_, _-_}
+use Rattle.promises.proofs.Tests.{true-so, false-so}
 use Rattle.promises.proofs.Answered.{kept-either}
-use Rattle.words.proofs.Tests.{true-so, false-so}
 use Rattle.promises.proofs.Lists.{Loops, loop-begins, loop-more, loop-falls, loop-room, loop-refused, loop-ends, loop-closes, list-unopened, list-opened, opened-on, no-limits, names-list}
 use Rattle.parser.specs.Counted.{counts, opened}
 use Rattle.parser.specs.declared.Limits.{Limits}

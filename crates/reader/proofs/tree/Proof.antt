@@ -1,8 +1,8 @@
 use mathlib.Core.Bool.{true}
 use Prim.Native.Nat.{_-_}
 use native.Mathlib.Omega.{arith}
+use Rattle.promises.proofs.Tests.{true-so, false-so}
 use Rattle.promises.proofs.Answered.{further}
-use Rattle.words.proofs.Tests.{true-so, false-so}
 use Rattle.promises.proofs.Imports.{limited}
 use Rattle.promises.proofs.Wholes.{Declares, finished-kept, finished-long, tree-begins, tree-few, tree-refused, tree-left, tree-read, tree-more}
 use borrow.Author.Needs.{needs}

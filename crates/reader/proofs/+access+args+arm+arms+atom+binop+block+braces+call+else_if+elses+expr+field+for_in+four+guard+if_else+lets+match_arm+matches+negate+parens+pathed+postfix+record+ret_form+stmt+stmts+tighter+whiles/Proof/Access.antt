@@ -1,8 +1,8 @@
 use Prim.Native.Nat.{ℕ, _-_}
 use mathlib.Core.Path.{_≡_, refl, _∙_}
 use lib.ListN.{length}
+use Rattle.promises.proofs.Tests.{true-so, false-so}
 use Rattle.promises.proofs.Partly.{partly-of, stops-answer}
-use Rattle.words.proofs.Tests.{true-so, false-so}
 use Rattle.promises.proofs.Operands.{access-ends, Accesses, operand-stands, access-on}
 use borrow.Author.Needs.{needs}
 use native.Mathlib.Omega.{arith}

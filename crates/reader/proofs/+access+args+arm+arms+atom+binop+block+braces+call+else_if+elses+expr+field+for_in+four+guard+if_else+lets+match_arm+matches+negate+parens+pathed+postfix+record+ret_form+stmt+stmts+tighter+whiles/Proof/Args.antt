@@ -1,10 +1,10 @@
 use Prim.Native.Nat.{ℕ, _-_}
 use mathlib.Core.Path.{_∙_}
 use mathlib.Core.List.{[], _∷_}
+use Rattle.promises.proofs.Tests.{true-so, false-so}
 use Rattle.parser.proofs.Standing.{past-word, is-word}
 use Rattle.promises.proofs.Answered.{further}
 use Rattle.promises.proofs.Lists.{exprs-list, Loops, loop-begins, loop-more, loop-refused, loop-ends, loop-closes, list-unopened, list-opened}
-use Rattle.words.proofs.Tests.{true-so, false-so}
 use Rattle.promises.proofs.Operands.{place-near, opening-stands, loop-few, closed-onward, refused-onward}
 use borrow.Author.Needs.{needs}
 use native.Mathlib.Omega.{arith}

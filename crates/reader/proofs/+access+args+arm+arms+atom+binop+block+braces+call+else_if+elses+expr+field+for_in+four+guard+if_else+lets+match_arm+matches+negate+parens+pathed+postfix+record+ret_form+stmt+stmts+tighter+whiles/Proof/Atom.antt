@@ -1,8 +1,8 @@
 use Prim.Native.Nat.{ℕ}
 use mathlib.Core.Path.{refl}
+use Rattle.promises.proofs.Tests.{true-so, false-so}
 use Rattle.parser.proofs.Standing.{is-word}
 use Rattle.promises.proofs.Alternatives.{operand-literal-on, operand-parens-on, operand-four-on}
-use Rattle.words.proofs.Tests.{true-so, false-so}
 use Rattle.promises.proofs.Operands.{atom-read, atom-unused, atom-braces, atom-block}
 use borrow.Author.Needs.{needs}
 use native.Mathlib.Omega.{arith}

@@ -1,8 +1,8 @@
 use Prim.Native.Nat.{ℕ}
 use mathlib.Core.Path.{ap}
+use Rattle.promises.proofs.Tests.{true-so, false-so}
 use Rattle.parser.specs.declared.Limits.{Limits}
 use borrow.Author.Tests.{not-true, not-false}
-use Rattle.words.proofs.Tests.{true-so, false-so}
 use Rattle.promises.proofs.Operands.{place-near, opening-stands, braces-shut, braces-stated, braces-fields, braces-named}
 use borrow.Author.Needs.{needs}
 use native.Mathlib.Omega.{arith}

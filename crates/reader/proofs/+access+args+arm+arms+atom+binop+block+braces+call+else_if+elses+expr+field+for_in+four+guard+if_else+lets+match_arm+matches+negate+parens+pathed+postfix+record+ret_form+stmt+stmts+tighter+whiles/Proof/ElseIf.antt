@@ -13,122 +13,36 @@ use Rattle.parser.proofs.deeper.Reads as deeper-reads
 use Rattle.parser.proofs.refuse.Reads as refuse-reads
 use Rattle.reader.proofs.+access+args+arm+arms+atom+binop+block+braces+call+else_if+elses+expr+field+for_in+four+guard+if_else+lets+match_arm+matches+negate+parens+pathed+postfix+record+ret_form+stmt+stmts+tighter+whiles.Proof.Measures.{else-if-at, if-else-below}
 
-pub else-if-refuse-requires : (t : ℕ) → else-if-lts.Need-refuse-requires (
-  refuse-reads.Asked,
-  refuse-reads.Learnt,
-  deeper-reads.Asked,
-  deeper-reads.Learnt,
-  chained-reads.Asked,
-  chained-reads.Learnt,
-  if-else-below t,
-  if-else.Post,
-) (else-if-at t) else-if.Post
-else-if-refuse-requires t c κs = search needs
+module _ (t : ℕ) where
+  abbrev told : else-if-lts.Claims
+  told = (refuse-reads.Asked, refuse-reads.Learnt, deeper-reads.Asked, deeper-reads.Learnt, chained-reads.Asked, chained-reads.Learnt, if-else-below t, if-else.Post)
 
-pub else-if-returns : (t : ℕ) → else-if-lts.Need-returns (
-  refuse-reads.Asked,
-  refuse-reads.Learnt,
-  deeper-reads.Asked,
-  deeper-reads.Learnt,
-  chained-reads.Asked,
-  chained-reads.Learnt,
-  if-else-below t,
-  if-else.Post,
-) (else-if-at t) else-if.Post
-else-if-returns t c = else-if-long (c .before .before .before .before .before .pre .1 .0) (c .before .before .before .before .before .pre .1 .1) (c .before .if1 .taken) (c .refuse .ensures)
+  pub else-if-refuse-requires : else-if-lts.Need-refuse-requires told (else-if-at t) else-if.Post
+  else-if-refuse-requires c κs = search needs
 
-pub else-if-deeper-requires : (t : ℕ) → else-if-lts.Need-deeper-requires (
-  refuse-reads.Asked,
-  refuse-reads.Learnt,
-  deeper-reads.Asked,
-  deeper-reads.Learnt,
-  chained-reads.Asked,
-  chained-reads.Learnt,
-  if-else-below t,
-  if-else.Post,
-) (else-if-at t) else-if.Post
-else-if-deeper-requires t c κs = search needs
+  pub else-if-returns : else-if-lts.Need-returns told (else-if-at t) else-if.Post
+  else-if-returns c = else-if-long (c .before .before .before .before .before .pre .1 .0) (c .before .before .before .before .before .pre .1 .1) (c .before .if1 .taken) (c .refuse .ensures)
 
-pub else-if-enum-known-r : (t : ℕ) → else-if-lts.Need-enum-known-r (
-  refuse-reads.Asked,
-  refuse-reads.Learnt,
-  deeper-reads.Asked,
-  deeper-reads.Learnt,
-  chained-reads.Asked,
-  chained-reads.Learnt,
-  if-else-below t,
-  if-else.Post,
-) (else-if-at t) else-if.Post
-else-if-enum-known-r t c = search needs
+  pub else-if-deeper-requires : else-if-lts.Need-deeper-requires told (else-if-at t) else-if.Post
+  else-if-deeper-requires c κs = search needs
 
-pub else-if-enum-told : (t : ℕ) → else-if-lts.Need-enum-told (
-  refuse-reads.Asked,
-  refuse-reads.Learnt,
-  deeper-reads.Asked,
-  deeper-reads.Learnt,
-  chained-reads.Asked,
-  chained-reads.Learnt,
-  if-else-below t,
-  if-else.Post,
-) (else-if-at t) else-if.Post
-else-if-enum-told t c = search needs
+  pub else-if-enum-known-r : else-if-lts.Need-enum-known-r told (else-if-at t) else-if.Post
+  else-if-enum-known-r c = search needs
 
-pub else-if-returns-2 : (t : ℕ) → else-if-lts.Need-returns-2 (
-  refuse-reads.Asked,
-  refuse-reads.Learnt,
-  deeper-reads.Asked,
-  deeper-reads.Learnt,
-  chained-reads.Asked,
-  chained-reads.Learnt,
-  if-else-below t,
-  if-else.Post,
-) (else-if-at t) else-if.Post
-else-if-returns-2 t c = else-if-deep (c .before .before .before .before .before .before .before .pre .1 .0) (c .before .before .before .before .before .before .before .pre .1 .1) (c .before .before .deeper .ensures) (c .enum-told .given .1)
+  pub else-if-enum-told : else-if-lts.Need-enum-told told (else-if-at t) else-if.Post
+  else-if-enum-told c = search needs
 
-pub else-if-chained-requires : (t : ℕ) → else-if-lts.Need-chained-requires (
-  refuse-reads.Asked,
-  refuse-reads.Learnt,
-  deeper-reads.Asked,
-  deeper-reads.Learnt,
-  chained-reads.Asked,
-  chained-reads.Learnt,
-  if-else-below t,
-  if-else.Post,
-) (else-if-at t) else-if.Post
-else-if-chained-requires t c κs = search needs
+  pub else-if-returns-2 : else-if-lts.Need-returns-2 told (else-if-at t) else-if.Post
+  else-if-returns-2 c = else-if-deep (c .before .before .before .before .before .before .before .pre .1 .0) (c .before .before .before .before .before .before .before .pre .1 .1) (c .before .before .deeper .ensures) (c .enum-told .given .1)
 
-pub else-if-if-else-requires : (t : ℕ) → else-if-lts.Need-if-else-requires (
-  refuse-reads.Asked,
-  refuse-reads.Learnt,
-  deeper-reads.Asked,
-  deeper-reads.Learnt,
-  chained-reads.Asked,
-  chained-reads.Learnt,
-  if-else-below t,
-  if-else.Post,
-) (else-if-at t) else-if.Post
-else-if-if-else-requires t c κs = let x = under-past 69 _ (c .before .before .before .before .before .before .before .before .before .before .pre .1 .0) tt (c .before .before .before .before .before .before .before .before .before .before .pre .1 .1) (c .before .before .before .before .before .deeper .ensures) (c .before .before .before .r .given .1) in (omega (arith, x .1, next-small (x .0), x .0 .short, c .before .before .before .before .before .before .before .before .before .before .pre .0), (x .0, ap (λ (l : Limits). l .signs) (c .chained .ensures)))
+  pub else-if-chained-requires : else-if-lts.Need-chained-requires told (else-if-at t) else-if.Post
+  else-if-chained-requires c κs = search needs
 
-pub else-if-same-length : (t : ℕ) → else-if-lts.Need-same-length (
-  refuse-reads.Asked,
-  refuse-reads.Learnt,
-  deeper-reads.Asked,
-  deeper-reads.Learnt,
-  chained-reads.Asked,
-  chained-reads.Learnt,
-  if-else-below t,
-  if-else.Post,
-) (else-if-at t) else-if.Post
-else-if-same-length t c = c .before .before .if-else .kept .1 .0
+  pub else-if-if-else-requires : else-if-lts.Need-if-else-requires told (else-if-at t) else-if.Post
+  else-if-if-else-requires c κs = let x = under-past 69 _ (c .before .before .before .before .before .before .before .before .before .before .pre .1 .0) tt (c .before .before .before .before .before .before .before .before .before .before .pre .1 .1) (c .before .before .before .before .before .deeper .ensures) (c .before .before .before .r .given .1) in (omega (arith, x .1, next-small (x .0), x .0 .short, c .before .before .before .before .before .before .before .before .before .before .pre .0), (x .0, ap (λ (l : Limits). l .signs) (c .chained .ensures)))
 
-pub else-if-returns-3 : (t : ℕ) → else-if-lts.Need-returns-3 (
-  refuse-reads.Asked,
-  refuse-reads.Learnt,
-  deeper-reads.Asked,
-  deeper-reads.Learnt,
-  chained-reads.Asked,
-  chained-reads.Learnt,
-  if-else-below t,
-  if-else.Post,
-) (else-if-at t) else-if.Post
-else-if-returns-3 t c = head-chained (else-if-on (c .before .before .before .before .before .before .before .before .before .before .before .before .before .pre .1 .0) (c .before .before .before .before .before .before .before .before .before .before .before .before .before .pre .1 .1) (c .before .before .before .before .before .before .before .before .deeper .ensures) (omega (arith, c .before .before .before .before .before .before .before .before .before .if1 .left)) (c .before .before .before .chained .ensures) (c .before .before .before .before .before .before .r .given .1)) (c .before .before .if-else .ensures)
+  pub else-if-same-length : else-if-lts.Need-same-length told (else-if-at t) else-if.Post
+  else-if-same-length c = c .before .before .if-else .kept .1 .0
+
+  pub else-if-returns-3 : else-if-lts.Need-returns-3 told (else-if-at t) else-if.Post
+  else-if-returns-3 c = head-chained (else-if-on (c .before .before .before .before .before .before .before .before .before .before .before .before .before .pre .1 .0) (c .before .before .before .before .before .before .before .before .before .before .before .before .before .pre .1 .1) (c .before .before .before .before .before .before .before .before .deeper .ensures) (omega (arith, c .before .before .before .before .before .before .before .before .before .if1 .left)) (c .before .before .before .chained .ensures) (c .before .before .before .before .before .before .r .given .1)) (c .before .before .if-else .ensures)

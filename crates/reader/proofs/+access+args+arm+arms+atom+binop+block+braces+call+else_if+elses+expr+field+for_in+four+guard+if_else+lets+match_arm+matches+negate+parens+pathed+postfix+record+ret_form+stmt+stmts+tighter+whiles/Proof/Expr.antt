@@ -2,9 +2,10 @@ use borrow.Author.Needs.{needs}
 use mathlib.Core.Path.{refl}
 use Prim.Native.Nat.{ℕ}
 use native.Mathlib.Omega.{arith}
+use Rattle.promises.proofs.Tests.{not-true-so, not-false-so}
 use Rattle.promises.proofs.Alternatives.{expr-off}
 use Rattle.promises.proofs.Answered.{kept-either, none-fits}
-use Rattle.promises.proofs.Exprs.{not-true-so, not-false-so, is-return, no-return, operand-first, expr-refused, expr-plain, expr-eight, expr-behind, expr-fails, expr-assigned}
+use Rattle.promises.proofs.Exprs.{is-return, no-return, operand-first, expr-refused, expr-plain, expr-eight, expr-behind, expr-fails, expr-assigned}
 use Rattle.reader.proofs.binop.Reads as binop
 use Rattle.reader.proofs.expr.Reads as expr
 use Rattle.reader.proofs.+access+args+arm+arms+atom+binop+block+braces+call+else_if+elses+expr+field+for_in+four+guard+if_else+lets+match_arm+matches+negate+parens+pathed+postfix+record+ret_form+stmt+stmts+tighter+whiles.Lts-expr as expr-lts

@@ -1,10 +1,10 @@
 use Prim.Native.Nat.{ℕ}
 use mathlib.Core.Path.{refl, ap, _∙_}
+use Rattle.promises.proofs.Tests.{true-so, false-so}
 use Rattle.parser.specs.declared.Limits.{Limits}
 use Rattle.grammar.specs.Limits.{zeros}
 use Rattle.promises.proofs.Answered.{further}
 use borrow.Author.Tests.{not-true, not-false}
-use Rattle.words.proofs.Tests.{true-so, false-so}
 use Rattle.promises.proofs.Operands.{place-near, path-stops, path-alone, record-shut, record-read, where-records, opening-stands}
 use borrow.Author.Needs.{needs}
 use native.Mathlib.Omega.{arith}

@@ -1,10 +1,10 @@
 use Prim.Native.Nat.{ℕ, _-_}
 use mathlib.Core.Path.{_∙_}
 use mathlib.Core.List.{[], _∷_}
+use Rattle.promises.proofs.Tests.{true-so, false-so}
 use Rattle.parser.proofs.Standing.{past-word, is-word}
 use Rattle.promises.proofs.Answered.{further}
 use Rattle.promises.proofs.Lists.{fields-list, Loops, loop-begins, loop-more}
-use Rattle.words.proofs.Tests.{true-so, false-so}
 use Rattle.promises.proofs.Operands.{place-near, loop-few, fields-stop, fields-last, fields-over}
 use borrow.Author.Needs.{needs}
 use native.Mathlib.Omega.{arith}

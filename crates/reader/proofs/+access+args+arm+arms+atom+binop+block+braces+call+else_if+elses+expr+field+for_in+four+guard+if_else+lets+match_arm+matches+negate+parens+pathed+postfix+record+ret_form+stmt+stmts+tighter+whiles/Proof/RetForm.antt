@@ -1,8 +1,9 @@
 use borrow.Author.Needs.{needs}
 use Prim.Native.Nat.{ℕ}
 use native.Mathlib.Omega.{arith}
+use Rattle.promises.proofs.Tests.{true-so, false-so}
 use Rattle.promises.proofs.Answered.{kept-either}
-use Rattle.promises.proofs.Exprs.{true-so, false-so, goes-on, return-goes, return-deep, return-ends, return-fails, return-valued}
+use Rattle.promises.proofs.Exprs.{goes-on, return-goes, return-deep, return-ends, return-fails, return-valued}
 use Rattle.reader.proofs.expr.Reads as expr
 use Rattle.reader.proofs.ret_form.Reads as ret-form
 use Rattle.reader.proofs.+access+args+arm+arms+atom+binop+block+braces+call+else_if+elses+expr+field+for_in+four+guard+if_else+lets+match_arm+matches+negate+parens+pathed+postfix+record+ret_form+stmt+stmts+tighter+whiles.Lts-ret_form as ret-form-lts

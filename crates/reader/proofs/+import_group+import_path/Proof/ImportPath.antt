@@ -2,7 +2,7 @@ use Prim.Native.Nat.{ℕ, _-_}
 use native.Mathlib.Omega.{arith}
 use borrow.Author.Needs.{needs}
 use borrow.Author.Tests.{not-true, not-false}
-use Rattle.words.proofs.Tests.{true-so, false-so}
+use Rattle.promises.proofs.Tests.{true-so, false-so}
 use Rattle.grammar.specs.Limits.{zeros}
 use Rattle.parser.proofs.Going.{few-rows}
 use Rattle.promises.proofs.Answered.{further, kept-either}

@@ -12,92 +12,33 @@ use Rattle.parser.proofs.finish.Reads as finish-reads
 use Rattle.parser.proofs.plain_row.Reads as plain-row-reads
 use Rattle.reader.proofs.+path_type+record_type+type_base+type_expr+typed_name+typed_names+types.Proof.Measures.{record-type-at, typed-names-below}
 
-pub record-type-typed-names-requires : (t : ℕ) → record-type-lts.Need-typed-names-requires (
-  typed-names-below t,
-  typed-names.Post,
-  plain-row-reads.Asked,
-  plain-row-reads.Learnt,
-  finish-reads.Asked,
-  finish-reads.Learnt,
-) (record-type-at t) record-type.Post
-record-type-typed-names-requires t c κs = (falls-same _ 8 7 _ (c .before .before .before .pre .0) (omega arith), (c .before .before .before .pre .1 .0, inr refl))
+module _ (t : ℕ) where
+  abbrev told : record-type-lts.Claims
+  told = (typed-names-below t, typed-names.Post, plain-row-reads.Asked, plain-row-reads.Learnt, finish-reads.Asked, finish-reads.Learnt)
 
-pub record-type-enum-known-r : (t : ℕ) → record-type-lts.Need-enum-known-r (
-  typed-names-below t,
-  typed-names.Post,
-  plain-row-reads.Asked,
-  plain-row-reads.Learnt,
-  finish-reads.Asked,
-  finish-reads.Learnt,
-) (record-type-at t) record-type.Post
-record-type-enum-known-r t c = search needs
+  pub record-type-typed-names-requires : record-type-lts.Need-typed-names-requires told (record-type-at t) record-type.Post
+  record-type-typed-names-requires c κs = (falls-same _ 8 7 _ (c .before .before .before .pre .0) (omega arith), (c .before .before .before .pre .1 .0, inr refl))
 
-pub record-type-enum-told : (t : ℕ) → record-type-lts.Need-enum-told (
-  typed-names-below t,
-  typed-names.Post,
-  plain-row-reads.Asked,
-  plain-row-reads.Learnt,
-  finish-reads.Asked,
-  finish-reads.Learnt,
-) (record-type-at t) record-type.Post
-record-type-enum-told t c = search needs
+  pub record-type-enum-known-r : record-type-lts.Need-enum-known-r told (record-type-at t) record-type.Post
+  record-type-enum-known-r c = search needs
 
-pub record-type-same-length : (t : ℕ) → record-type-lts.Need-same-length (
-  typed-names-below t,
-  typed-names.Post,
-  plain-row-reads.Asked,
-  plain-row-reads.Learnt,
-  finish-reads.Asked,
-  finish-reads.Learnt,
-) (record-type-at t) record-type.Post
-record-type-same-length t c = kept-either (fields-refused (c .before .before .before .before .before .before .before .before .pre .1 .0) (c .before .before .before .before .before .before .before .before .pre .1 .1) (c .before .before .before .before .typed-names .ensures) (c .enum-told .given .1))
+  pub record-type-enum-told : record-type-lts.Need-enum-told told (record-type-at t) record-type.Post
+  record-type-enum-told c = search needs
 
-pub record-type-returns : (t : ℕ) → record-type-lts.Need-returns (
-  typed-names-below t,
-  typed-names.Post,
-  plain-row-reads.Asked,
-  plain-row-reads.Learnt,
-  finish-reads.Asked,
-  finish-reads.Learnt,
-) (record-type-at t) record-type.Post
-record-type-returns t c = fields-refused (c .before .before .before .before .before .before .before .before .pre .1 .0) (c .before .before .before .before .before .before .before .before .pre .1 .1) (c .before .before .before .before .typed-names .ensures) (c .enum-told .given .1)
+  pub record-type-same-length : record-type-lts.Need-same-length told (record-type-at t) record-type.Post
+  record-type-same-length c = kept-either (fields-refused (c .before .before .before .before .before .before .before .before .pre .1 .0) (c .before .before .before .before .before .before .before .before .pre .1 .1) (c .before .before .before .before .typed-names .ensures) (c .enum-told .given .1))
 
-pub record-type-plain-row-requires : (t : ℕ) → record-type-lts.Need-plain-row-requires (
-  typed-names-below t,
-  typed-names.Post,
-  plain-row-reads.Asked,
-  plain-row-reads.Learnt,
-  finish-reads.Asked,
-  finish-reads.Learnt,
-) (record-type-at t) record-type.Post
-record-type-plain-row-requires t c κs = search needs
+  pub record-type-returns : record-type-lts.Need-returns told (record-type-at t) record-type.Post
+  record-type-returns c = fields-refused (c .before .before .before .before .before .before .before .before .pre .1 .0) (c .before .before .before .before .before .before .before .before .pre .1 .1) (c .before .before .before .before .typed-names .ensures) (c .enum-told .given .1)
 
-pub record-type-finish-requires : (t : ℕ) → record-type-lts.Need-finish-requires (
-  typed-names-below t,
-  typed-names.Post,
-  plain-row-reads.Asked,
-  plain-row-reads.Learnt,
-  finish-reads.Asked,
-  finish-reads.Learnt,
-) (record-type-at t) record-type.Post
-record-type-finish-requires t c κs = search needs
+  pub record-type-plain-row-requires : record-type-lts.Need-plain-row-requires told (record-type-at t) record-type.Post
+  record-type-plain-row-requires c κs = search needs
 
-pub record-type-same-length-2 : (t : ℕ) → record-type-lts.Need-same-length-2 (
-  typed-names-below t,
-  typed-names.Post,
-  plain-row-reads.Asked,
-  plain-row-reads.Learnt,
-  finish-reads.Asked,
-  finish-reads.Learnt,
-) (record-type-at t) record-type.Post
-record-type-same-length-2 t c = kept-either (fields-read (c .before .before .before .before .before .before .before .before .before .before .before .before .before .before .pre .1 .0) (c .before .before .before .before .before .before .before .before .before .before .before .before .before .before .pre .1 .1) (c .before .before .before .before .before .before .before .before .before .before .typed-names .ensures) (c .before .before .before .before .before .before .r .given .1) (c .before .before .before .before .plain-row .ensures) (c .before .before .finish .ensures .0) (c .before .before .finish .ensures .1))
+  pub record-type-finish-requires : record-type-lts.Need-finish-requires told (record-type-at t) record-type.Post
+  record-type-finish-requires c κs = search needs
 
-pub record-type-returns-2 : (t : ℕ) → record-type-lts.Need-returns-2 (
-  typed-names-below t,
-  typed-names.Post,
-  plain-row-reads.Asked,
-  plain-row-reads.Learnt,
-  finish-reads.Asked,
-  finish-reads.Learnt,
-) (record-type-at t) record-type.Post
-record-type-returns-2 t c = fields-read (c .before .before .before .before .before .before .before .before .before .before .before .before .before .before .pre .1 .0) (c .before .before .before .before .before .before .before .before .before .before .before .before .before .before .pre .1 .1) (c .before .before .before .before .before .before .before .before .before .before .typed-names .ensures) (c .before .before .before .before .before .before .r .given .1) (c .before .before .before .before .plain-row .ensures) (c .before .before .finish .ensures .0) (c .before .before .finish .ensures .1)
+  pub record-type-same-length-2 : record-type-lts.Need-same-length-2 told (record-type-at t) record-type.Post
+  record-type-same-length-2 c = kept-either (fields-read (c .before .before .before .before .before .before .before .before .before .before .before .before .before .before .pre .1 .0) (c .before .before .before .before .before .before .before .before .before .before .before .before .before .before .pre .1 .1) (c .before .before .before .before .before .before .before .before .before .before .typed-names .ensures) (c .before .before .before .before .before .before .r .given .1) (c .before .before .before .before .plain-row .ensures) (c .before .before .finish .ensures .0) (c .before .before .finish .ensures .1))
+
+  pub record-type-returns-2 : record-type-lts.Need-returns-2 told (record-type-at t) record-type.Post
+  record-type-returns-2 c = fields-read (c .before .before .before .before .before .before .before .before .before .before .before .before .before .before .pre .1 .0) (c .before .before .before .before .before .before .before .before .before .before .before .before .before .before .pre .1 .1) (c .before .before .before .before .before .before .before .before .before .before .typed-names .ensures) (c .before .before .before .before .before .before .r .given .1) (c .before .before .before .before .plain-row .ensures) (c .before .before .finish .ensures .0) (c .before .before .finish .ensures .1)

@@ -20,122 +20,51 @@ type-expr-Inv-loop s table₀ found₀ here₀ table found here = Marks s found�
 abbrev pub type-expr-μ-loop : type-expr-lts.MeasureT-loop
 type-expr-μ-loop s table₀ found₀ here₀ table found here = length s + 1 - here .next
 
-pub type-expr-type-base-requires : (t : ℕ) → type-expr-lts.Need-type-base-requires (
-  type-base-below t,
-  type-base.Post,
-  question-reads.Asked,
-  question-reads.Learnt,
-) (type-expr-at t) type-expr.Post type-expr-Inv-loop type-expr-μ-loop
-type-expr-type-base-requires t c κs = (falls-same _ 10 9 _ (c .before .before .before .pre .0) (omega arith), c .before .before .before .pre .1)
+module _ (t : ℕ) where
+  abbrev told : type-expr-lts.Claims
+  told = (type-base-below t, type-base.Post, question-reads.Asked, question-reads.Learnt)
 
-pub type-expr-enum-known-r : (t : ℕ) → type-expr-lts.Need-enum-known-r (
-  type-base-below t,
-  type-base.Post,
-  question-reads.Asked,
-  question-reads.Learnt,
-) (type-expr-at t) type-expr.Post type-expr-Inv-loop type-expr-μ-loop
-type-expr-enum-known-r t c = search needs
+  pub type-expr-type-base-requires : type-expr-lts.Need-type-base-requires told (type-expr-at t) type-expr.Post type-expr-Inv-loop type-expr-μ-loop
+  type-expr-type-base-requires c κs = (falls-same _ 10 9 _ (c .before .before .before .pre .0) (omega arith), c .before .before .before .pre .1)
 
-pub type-expr-enum-told : (t : ℕ) → type-expr-lts.Need-enum-told (
-  type-base-below t,
-  type-base.Post,
-  question-reads.Asked,
-  question-reads.Learnt,
-) (type-expr-at t) type-expr.Post type-expr-Inv-loop type-expr-μ-loop
-type-expr-enum-told t c = search needs
+  pub type-expr-enum-known-r : type-expr-lts.Need-enum-known-r told (type-expr-at t) type-expr.Post type-expr-Inv-loop type-expr-μ-loop
+  type-expr-enum-known-r c = search needs
 
-pub type-expr-same-length : (t : ℕ) → type-expr-lts.Need-same-length (
-  type-base-below t,
-  type-base.Post,
-  question-reads.Asked,
-  question-reads.Learnt,
-) (type-expr-at t) type-expr.Post type-expr-Inv-loop type-expr-μ-loop
-type-expr-same-length t c = kept-either (c .before .before .before .before .type-base .ensures)
+  pub type-expr-enum-told : type-expr-lts.Need-enum-told told (type-expr-at t) type-expr.Post type-expr-Inv-loop type-expr-μ-loop
+  type-expr-enum-told c = search needs
 
-pub type-expr-returns : (t : ℕ) → type-expr-lts.Need-returns (
-  type-base-below t,
-  type-base.Post,
-  question-reads.Asked,
-  question-reads.Learnt,
-) (type-expr-at t) type-expr.Post type-expr-Inv-loop type-expr-μ-loop
-type-expr-returns t c = type-refused (c .before .before .before .before .before .before .before .before .pre .1) (c .before .before .before .before .type-base .ensures) (c .enum-told .given .1)
+  pub type-expr-same-length : type-expr-lts.Need-same-length told (type-expr-at t) type-expr.Post type-expr-Inv-loop type-expr-μ-loop
+  type-expr-same-length c = kept-either (c .before .before .before .before .type-base .ensures)
 
-pub type-expr-loop-holds : (t : ℕ) → type-expr-lts.Need-loop-holds (
-  type-base-below t,
-  type-base.Post,
-  question-reads.Asked,
-  question-reads.Learnt,
-) (type-expr-at t) type-expr.Post type-expr-Inv-loop type-expr-μ-loop
-type-expr-loop-holds t c = λ f e g. g
+  pub type-expr-returns : type-expr-lts.Need-returns told (type-expr-at t) type-expr.Post type-expr-Inv-loop type-expr-μ-loop
+  type-expr-returns c = type-refused (c .before .before .before .before .before .before .before .before .pre .1) (c .before .before .before .before .type-base .ensures) (c .enum-told .given .1)
 
-pub type-expr-question-requires : (t : ℕ) → type-expr-lts.Need-question-requires (
-  type-base-below t,
-  type-base.Post,
-  question-reads.Asked,
-  question-reads.Learnt,
-) (type-expr-at t) type-expr.Post type-expr-Inv-loop type-expr-μ-loop
-type-expr-question-requires t c κs = search needs
+  pub type-expr-loop-holds : type-expr-lts.Need-loop-holds told (type-expr-at t) type-expr.Post type-expr-Inv-loop type-expr-μ-loop
+  type-expr-loop-holds c = λ f e g. g
 
-pub type-expr-enum-known-r-2 : (t : ℕ) → type-expr-lts.Need-enum-known-r-2 (
-  type-base-below t,
-  type-base.Post,
-  question-reads.Asked,
-  question-reads.Learnt,
-) (type-expr-at t) type-expr.Post type-expr-Inv-loop type-expr-μ-loop
-type-expr-enum-known-r-2 t c = search needs
+  pub type-expr-question-requires : type-expr-lts.Need-question-requires told (type-expr-at t) type-expr.Post type-expr-Inv-loop type-expr-μ-loop
+  type-expr-question-requires c κs = search needs
 
-pub type-expr-enum-told-2 : (t : ℕ) → type-expr-lts.Need-enum-told-2 (
-  type-base-below t,
-  type-base.Post,
-  question-reads.Asked,
-  question-reads.Learnt,
-) (type-expr-at t) type-expr.Post type-expr-Inv-loop type-expr-μ-loop
-type-expr-enum-told-2 t c = search needs
+  pub type-expr-enum-known-r-2 : type-expr-lts.Need-enum-known-r-2 told (type-expr-at t) type-expr.Post type-expr-Inv-loop type-expr-μ-loop
+  type-expr-enum-known-r-2 c = search needs
 
-pub type-expr-same-length-2 : (t : ℕ) → type-expr-lts.Need-same-length-2 (
-  type-base-below t,
-  type-base.Post,
-  question-reads.Asked,
-  question-reads.Learnt,
-) (type-expr-at t) type-expr.Post type-expr-Inv-loop type-expr-μ-loop
-type-expr-same-length-2 t c = not-both (c .before .before .before .before .question .ensures .0) (c .enum-told2 .given .1)
+  pub type-expr-enum-told-2 : type-expr-lts.Need-enum-told-2 told (type-expr-at t) type-expr.Post type-expr-Inv-loop type-expr-μ-loop
+  type-expr-enum-told-2 c = search needs
 
-pub type-expr-returns-2 : (t : ℕ) → type-expr-lts.Need-returns-2 (
-  type-base-below t,
-  type-base.Post,
-  question-reads.Asked,
-  question-reads.Learnt,
-) (type-expr-at t) type-expr.Post type-expr-Inv-loop type-expr-μ-loop
-type-expr-returns-2 t c = not-both (c .before .before .before .before .question .ensures .0) (c .enum-told2 .given .1)
+  pub type-expr-same-length-2 : type-expr-lts.Need-same-length-2 told (type-expr-at t) type-expr.Post type-expr-Inv-loop type-expr-μ-loop
+  type-expr-same-length-2 c = not-both (c .before .before .before .before .question .ensures .0) (c .enum-told2 .given .1)
 
-pub type-expr-loop-less : (t : ℕ) → type-expr-lts.Need-loop-less (
-  type-base-below t,
-  type-base.Post,
-  question-reads.Asked,
-  question-reads.Learnt,
-) (type-expr-at t) type-expr.Post type-expr-Inv-loop type-expr-μ-loop
-type-expr-loop-less t c = mark-falls (c .before .before .before .before .before .before .before .before .before .loop .inv _ refl (type-begins (c .before .before .before .before .before .before .before .before .before .before .before .before .before .before .before .before .before .before .before .pre .1) (c .before .before .before .before .before .before .before .before .before .before .before .before .before .before .before .type-base .ensures) (c .before .before .before .before .before .before .before .before .before .before .before .r .given .1))) (c .before .before .before .before .before .before .before .if1 .taken) (c .before .before .before .before .before .question .ensures .0) (c .before .r2 .given .1)
+  pub type-expr-returns-2 : type-expr-lts.Need-returns-2 told (type-expr-at t) type-expr.Post type-expr-Inv-loop type-expr-μ-loop
+  type-expr-returns-2 c = not-both (c .before .before .before .before .question .ensures .0) (c .enum-told2 .given .1)
 
-pub type-expr-loop-again : (t : ℕ) → type-expr-lts.Need-loop-again (
-  type-base-below t,
-  type-base.Post,
-  question-reads.Asked,
-  question-reads.Learnt,
-) (type-expr-at t) type-expr.Post type-expr-Inv-loop type-expr-μ-loop
-type-expr-loop-again t c = λ f e g. type-marks e (c .before .before .before .before .before .before .before .before .before .loop .inv f e g) (c .before .before .before .before .before .before .before .if1 .taken) (c .before .before .before .before .before .question .ensures .0) (c .before .before .before .before .before .question .ensures .1) (c .before .r2 .given .1)
+  pub type-expr-loop-less : type-expr-lts.Need-loop-less told (type-expr-at t) type-expr.Post type-expr-Inv-loop type-expr-μ-loop
+  type-expr-loop-less c = mark-falls (c .before .before .before .before .before .before .before .before .before .loop .inv _ refl (type-begins (c .before .before .before .before .before .before .before .before .before .before .before .before .before .before .before .before .before .before .before .pre .1) (c .before .before .before .before .before .before .before .before .before .before .before .before .before .before .before .type-base .ensures) (c .before .before .before .before .before .before .before .before .before .before .before .r .given .1))) (c .before .before .before .before .before .before .before .if1 .taken) (c .before .before .before .before .before .question .ensures .0) (c .before .r2 .given .1)
 
-pub type-expr-same-length-3 : (t : ℕ) → type-expr-lts.Need-same-length-3 (
-  type-base-below t,
-  type-base.Post,
-  question-reads.Asked,
-  question-reads.Learnt,
-) (type-expr-at t) type-expr.Post type-expr-Inv-loop type-expr-μ-loop
-type-expr-same-length-3 t c = kept-length ((c .before .before .loop .inv _ refl (type-begins (c .before .before .before .before .before .before .before .before .before .before .before .before .pre .1) (c .before .before .before .before .before .before .before .before .type-base .ensures) (c .before .before .before .before .r .given .1))) .going)
+  pub type-expr-loop-again : type-expr-lts.Need-loop-again told (type-expr-at t) type-expr.Post type-expr-Inv-loop type-expr-μ-loop
+  type-expr-loop-again c = λ f e g. type-marks e (c .before .before .before .before .before .before .before .before .before .loop .inv f e g) (c .before .before .before .before .before .before .before .if1 .taken) (c .before .before .before .before .before .question .ensures .0) (c .before .before .before .before .before .question .ensures .1) (c .before .r2 .given .1)
 
-pub type-expr-returns-3 : (t : ℕ) → type-expr-lts.Need-returns-3 (
-  type-base-below t,
-  type-base.Post,
-  question-reads.Asked,
-  question-reads.Learnt,
-) (type-expr-at t) type-expr.Post type-expr-Inv-loop type-expr-μ-loop
-type-expr-returns-3 t c = type-ends (c .before .before .loop .inv _ refl (type-begins (c .before .before .before .before .before .before .before .before .before .before .before .before .pre .1) (c .before .before .before .before .before .before .before .before .type-base .ensures) (c .before .before .before .before .r .given .1))) (c .if1 .left) refl
+  pub type-expr-same-length-3 : type-expr-lts.Need-same-length-3 told (type-expr-at t) type-expr.Post type-expr-Inv-loop type-expr-μ-loop
+  type-expr-same-length-3 c = kept-length ((c .before .before .loop .inv _ refl (type-begins (c .before .before .before .before .before .before .before .before .before .before .before .before .pre .1) (c .before .before .before .before .before .before .before .before .type-base .ensures) (c .before .before .before .before .r .given .1))) .going)
+
+  pub type-expr-returns-3 : type-expr-lts.Need-returns-3 told (type-expr-at t) type-expr.Post type-expr-Inv-loop type-expr-μ-loop
+  type-expr-returns-3 c = type-ends (c .before .before .loop .inv _ refl (type-begins (c .before .before .before .before .before .before .before .before .before .before .before .before .pre .1) (c .before .before .before .before .before .before .before .before .type-base .ensures) (c .before .before .before .before .r .given .1))) (c .if1 .left) refl
