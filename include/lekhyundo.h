@@ -4,8 +4,8 @@
  * not be null or unaligned, also for 0 elements, and nothing is kept of it. No function allocates, fails or asks anything of the bytes.
  * What each says is proved.
  *
- * (a) and (b) call themselves as deep as a source nests: a few thousand bytes of stack for most, 5.6 MiB for one that nests at all limits
- * at once (docs/ARCHITECTURE.md, "Stack"). A thread that reads what strangers wrote needs 6 MiB.
+ * (a) and (b) call themselves as deep as a source nests: a few thousand bytes of stack for most, 973 KiB for one that nests at all limits
+ * at once (docs/ARCHITECTURE.md, "Stack"). A thread with 1 MiB of stack can read what strangers wrote.
  *
  * An answer is four numbers: the number of docs (README.md), where its place starts and ends, and a count: the rows or
  * bytes for 0, those needed for 10, else 0. If fewer than four are lent, only those are written.

@@ -15,7 +15,7 @@ mod c {
 pub const MOST_ROWS: usize = 98_304;
 
 /// Bytes of stack that are enough for any source. Most sources take a few thousand; only nesting at all limits takes this.
-pub const MOST_STACK: usize = 6 << 20;
+pub const MOST_STACK: usize = 1 << 20;
 
 /// Six numbers: kind, start, end, children, value, detail.
 pub type Row = [u64; 6];

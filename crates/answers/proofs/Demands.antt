@@ -1,8 +1,8 @@
 -- Demands 1 and 3 hold.
-use mathlib.Core.Path.{_≡_, refl, sym, ap, subst, _∙_}
+use mathlib.Core.Path.{_≡_, refl, ap, subst, _∙_}
 use mathlib.Core.List.{List, _++_}
-use mathlib.Core.Bool.{Bool, true, false, _&&_, _||_}
-use mathlib.Core.Logic.{_⊎_, inl, inr, _≢_}
+use mathlib.Core.Bool.{Bool, true, false, _||_}
+use mathlib.Core.Logic.{inl, inr, _≢_}
 use Prim.Native.Nat.{ℕ, _+_, _-_, _*_, _≤_}
 use lib.Dec.{T, eqb, leb, leb→le, le→leb, eqb→eq}
 use lib.ListN.{length, replicate}
@@ -18,12 +18,12 @@ use Rattle.tokens.specs.Rules.{pairAt}
 use Rattle.tokens.specs.Tokens.{wholeOf, counted}
 use Rattle.grammar.specs.Grammar.{Parts}
 use Rattle.grammar.specs.Rows.{width, flat, nodes}
-use Rattle.grammar.specs.Answers.{accepted, accepts, stops, leaves}
-use Rattle.grammar.proofs.Bools.{T→eq, and-l, and-r, or-cases}
+use Rattle.grammar.specs.Answers.{accepts, stops, leaves}
+use Rattle.grammar.proofs.Bools.{T→eq, and-r, or-cases}
 use Rattle.grammar.proofs.Demand.{is-refusal, refused-number, the-reading, row-count}
 use Rattle.answers.specs.Source.{source}
-use Rattle.answers.specs.Entries.{room, answerFor, tableFor, Permitted, early, read}
-use Rattle.answers.specs.Demands.{Reading, rowsOf, itself, Demand1, Demand3}
+use Rattle.answers.specs.Entries.{room, Permitted, early, read}
+use Rattle.answers.specs.Demands.{rowsOf, itself, Demand1, Demand3}
 use Rattle.answers.proofs.Scans.{look-number}
 use Rattle.answers.proofs.Determined.{one-permitted, accepted-reads, reading-accepted}
 use Rattle.answers.proofs.Bytes.{a-permitted}

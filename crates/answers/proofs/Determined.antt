@@ -20,7 +20,6 @@ use Rattle.grammar.specs.Readings.{Text}
 use Rattle.grammar.specs.Rows.{width, flat, rows}
 use Rattle.grammar.specs.Language.{roto, goal}
 use Rattle.grammar.specs.Answers.{accepted, accepts, stops, leaves}
-use Rattle.grammar.specs.Answers as grammar
 use Rattle.grammar.proofs.Bools.{and-l}
 use Rattle.grammar.proofs.Demand.{is-refusal, one-answer, refused-number}
 use Rattle.answers.specs.Source.{source}

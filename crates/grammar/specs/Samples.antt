@@ -3,7 +3,7 @@ use mathlib.Core.Path.{_≡_}
 use mathlib.Core.List.{List, [], _∷_}
 use mathlib.Core.Bool.{true, false}
 use mathlib.Core.Option.{some}
-use Prim.Native.Nat.{ℕ, suc, _+_}
+use Prim.Native.Nat.{ℕ, _+_}
 use Rattle.grammar.specs.Words.{name, '==', '=', '-', open-paren, close-paren, comma}
 use Rattle.grammar.specs.Grammar.{Token}
 use Rattle.grammar.specs.Rows.{Row}

@@ -1,12 +1,12 @@
 -- No refusal has the number 0; so where the source is refused, or its tokens exceed the room, the answer's number isn't 0.
 use mathlib.Core.Path.{_≡_, refl, sym, ap, _∙_, subst}
-use Prim.Native.Nat.{ℕ, zero, suc, _+_, _<_, _≤_}
-use mathlib.Core.List.{List, [], _∷_}
+use Prim.Native.Nat.{ℕ, zero, suc, _+_, _<_}
+use mathlib.Core.List.{List}
 use mathlib.Core.Bool.{Bool, true, false}
 use native.Mathlib.Omega.{arith}
 use lib.ListN.{length}
-use lib.Dec.{eqb, ltb, leb}
-use borrow.Author.Tests.{ne-eqb, eqb-true, lt-leb}
+use lib.Dec.{eqb, ltb}
+use borrow.Author.Tests.{ne-eqb, lt-leb}
 use Rattle.chars.specs.declared.Class.the-variants.{Ascii}
 use Rattle.chars.specs.Chars.{pick, isClass}
 use Rattle.chars.specs.Runs.{pastRun}

@@ -1,5 +1,5 @@
 -- What stands in the list, turn by turn of the writer; and that in the end it is what the contract says. With no machine in it.
-use mathlib.Core.Path.{_≡_, refl, sym, ap, _∙_, subst}
+use mathlib.Core.Path.{_≡_, refl, sym, ap, _∙_}
 use Prim.Native.Nat.{ℕ, zero, suc, _+_, _-_, _<_, _≤_}
 use mathlib.Core.List.{List, [], _∷_, _++_, append-nil}
 use mathlib.Core.Bool.{Bool, true, false}
@@ -8,18 +8,17 @@ use native.Mathlib.Nat.{sub-zero}
 use native.Mathlib.Omega.{arith}
 use lib.ListN.{length, set, length-set, take, drop, replicate, length-drop, take-append-drop}
 use lib.Seq.{take-suc-set, take-set-le, take-at, drop-at, take-all}
-use lib.Dec.{eqb, ltb, leb}
-use borrow.Author.Tests.{eq-eqb, ne-eqb, le-leb, ltb-true, ltb-false, eqb-true, eqb-false}
+use lib.Dec.{eqb, ltb}
+use borrow.Author.Tests.{ne-eqb, le-leb, ltb-true, ltb-false}
 use Rattle.chars.specs.Chars.{pick}
 use Rattle.tokens.specs.declared.Token.{Token}
 use Rattle.tokens.specs.declared.Cursor.{Cursor}
 use Rattle.tokens.specs.declared.Refusal.{Refusal}
-use Rattle.tokens.specs.declared.Answer.{Answer}
 use Rattle.tokens.specs.declared.Step.{Step}
 use Rattle.tokens.specs.declared.Step.the-variants.{Taken, Refused}
 use Rattle.tokens.specs.declared.Whole.{Whole}
 use Rattle.tokens.specs.declared.Whole.the-variants.{Fine, Refused as Bad}
-use Rattle.tokens.specs.Tokens.{stepAt, wholeOf, Listed, more, listFrom, listOf, lastOf, answerOf}
+use Rattle.tokens.specs.Tokens.{stepAt, wholeOf, listFrom, listOf, lastOf, answerOf}
 use Rattle.tokens.proofs.Steps.{taken-good}
 use Rattle.tokens.proofs.Lists.{list-taken, list-refused, enough, Counted, none-counted, one-counted, all-counted}
 use Rattle.list.specs.declared.State.{State}

@@ -1,41 +1,40 @@
 -- How a reader's steps follow the grammar: one law for each shape of step.
 use mathlib.Core.Path.{_≡_, refl, sym, ap, subst, _∙_}
-use mathlib.Core.List.{List, [], _∷_, _++_, append-nil}
+use mathlib.Core.List.{List, [], _∷_, _++_}
 use mathlib.Core.Bool.{Bool, true, false, not, _&&_}
-use mathlib.Core.Option.{Option, none, some}
-use mathlib.Core.Logic.{_≢_}
+use mathlib.Core.Option.{none, some}
 use Prim.Native.Nat.{ℕ, _+_, _*_, _≤_, _<_}
-use lib.Dec.{T, eqb, ltb, ltb→lt}
+use lib.Dec.{T, eqb}
 use lib.ListN.{length, length-append}
 use native.Mathlib.Omega.{arith}
-use Rattle.chars.specs.Chars.{pick}
 use Rattle.tokens.specs.declared.Refusal.{Refusal}
 use Rattle.rows.specs.declared.Row.{Row}
 use Rattle.rows.specs.Rows.{putRow}
-use Rattle.grammar.specs.Grammar.{Ask, plain, has-value, Scope, same, Symbol, token, phrase, unless, note, left-side, found, one-of, ite}
+use Rattle.grammar.specs.Grammar.{Ask, Scope, same, Symbol, token, phrase, unless, note, one-of, ite}
 use Rattle.grammar.specs.Limits.{Counts, after, inside, kept}
 use Rattle.grammar.specs.Table.{rest-kinds, literal-row}
 use Rattle.grammar.specs.Choice.{chosen}
 use Rattle.grammar.specs.Readings.{peek}
-use Rattle.grammar.specs.Runs.{view, may, Run}
-use Rattle.grammar.specs.Rows.{Item, child, Draft, children-of, row-of, take-note, add-row, blank}
+use Rattle.grammar.specs.Runs.{view, Run}
+use Rattle.grammar.specs.Rows.{Draft, children-of, row-of, take-note, add-row, blank}
 use Rattle.grammar.specs.Rows as grammar
-use Rattle.grammar.specs.Refusals.{Why, want, amiss, past, left, ask-number, said, Stops, stops-none, stops-in}
+use Rattle.grammar.specs.Refusals.{Why, want, amiss, past, ask-number, said, Stops, stops-none, stops-in}
 use Rattle.grammar.specs.Phrases as phrases
-use Rattle.grammar.proofs.Bools.{T→eq, F→eq, and-l}
+use Rattle.grammar.proofs.Bools.{and-l}
+use Rattle.parser.proofs.Laws.{bump-more}
 use Rattle.grammar.proofs.Frame.{no-text, with-own}
 use Rattle.grammar.proofs.Summary.{sum, sum-of}
-use Rattle.grammar.proofs.Open.{Left, Open, with-phrase, start, finish, pop, take, notes, within, reads, tail, apart, clear, wants, passes, lost, fails, forks, signed, row-left, path-left}
+use Rattle.grammar.proofs.Open.{Left, Open, with-phrase, start, finish, pop, take, notes, within, reads, tail, apart, clear, wants, passes, lost, fails}
 use Rattle.answers.specs.Source.{source}
 use Rattle.parser.specs.declared.Here.{Here}
 use Rattle.parser.specs.declared.Node.{Node}
 use Rattle.parser.specs.declared.Read.{Read}
 use Rattle.parser.specs.declared.Read.the-variants.{Done, Refused}
-use Rattle.parser.specs.Places.{bumped, hereAt, passed, unusedAt, refusalAt, later}
+use Rattle.parser.specs.Places.{passed, unusedAt, refusalAt, later}
 use Rattle.parser.specs.Going.{language, tokenOf, Stands, asRow, store, Tally, bare, lone, many, Holds, withToken, withNode, countOf, rowOver, Phrase, Going, Whole, Stopped, Either, Answers}
-use Rattle.parser.proofs.Standing.{Usual, solid, solid-word, peeks, word-small, next-small, is-token, says, lacking, goes-past, more-rows}
+use Rattle.parser.proofs.Standing.{solid, solid-word, peeks, next-small, is-token, says, lacking, goes-past, more-rows}
 use Rattle.parser.proofs.Tables.{store-append, store-row, store-length}
-use Rattle.parser.proofs.Tallies.{Leaves, holds-token, holds-node, holds-row, no-children, children-append, children-twice, leaves-first}
+use Rattle.parser.proofs.Tallies.{holds-token, holds-node, holds-row}
 
 -- the counts of a token's own, and one phrase left
 abbrev pub at : Counts → List Symbol → Left
@@ -67,12 +66,6 @@ few-rows {f} {h = h} {y = y} g =
     let e = g .spares in
     let r = g .rows in
     (omega arith, omega arith, omega arith, omega arith, omega arith)
-
-bumped-more : (n : ℕ) → n < 300000 → bumped n ≡ n + 1
-bumped-more n h = ap (λ (b : Bool). pick b (n + 1) n) (T→eq (ltb n 300000) (lt→ n h))
-  where
-    lt→ : (n : ℕ) → n < 300000 → T (ltb n 300000)
-    lt→ n h = lib.Dec.lt→ltb n 300000 h
 
 module _ {f : Phrase} {d : Counts} {ks : List Left} {h : Here} {t : List ℕ} {y : Tally} {v k : ℕ} where
   -- past a token
@@ -140,7 +133,7 @@ module _ {f : Phrase} {d : Counts} {ks : List Left} {h : Here} {t : List ℕ} {y
       let x : grammar.Row = row-of n (a .items) (a .part) in
       let i : x ≡ back r = ap (row-of n (a .items)) (g .part) ∙ holds-row n y v (a .items) l (g .holds) ∙ sym (ap back e) in
       let c = few-rows g in
-      let rows : h′ .rows ≡ h .rows + 1 = ap (λ (q : Here). q .rows) b ∙ bumped-more (h .rows) (c .0) in
+      let rows : h′ .rows ≡ h .rows + 1 = ap (λ (q : Here). q .rows) b ∙ sym (bump-more 300000 (h .rows) (c .0)) in
       let next : h′ .next ≡ h .next = ap (λ (q : Here). q .next) b in
       let place : h′ .place ≡ h .place = ap (λ (q : Here). q .place) b in
       let len : length (a .rows ++ (x ∷ [])) ≡ length (a .rows) + 1 = length-append (a .rows) (x ∷ []) in

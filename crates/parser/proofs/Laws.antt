@@ -15,7 +15,7 @@ use Rattle.tokens.specs.Tokens.{stepAt}
 use Rattle.parser.specs.declared.Here.{Here}
 use Rattle.parser.specs.declared.Read.{Read}
 use Rattle.parser.specs.declared.Read.the-variants as read
-use Rattle.parser.specs.Places.{bumped, over, wrong, nowhereOf, hereOf, hereAt, refusalAt, unusedAt, unused, passed, past, listNode, expected, under, opening, closing}
+use Rattle.parser.specs.Places.{upTo, over, wrong, nowhereOf, hereOf, hereAt, refusalAt, unusedAt, unused, passed, past, listNode, expected, under, opening, closing}
 
 first : {A : Type 0} {t : Bool} {a x : A} (b : A) → t ≡ true → x ≡ a → x ≡ pick t a b
 first b h g = rw h g
@@ -23,11 +23,11 @@ first b h g = rw h g
 second : {A : Type 0} {t : Bool} (a : A) {b x : A} → t ≡ false → x ≡ b → x ≡ pick t a b
 second a h g = rw h g
 
-pub bump-more : (n : ℕ) → n < 300000 → (n + 1) ≡ bumped n
-bump-more n h = first _ (lt-ltb _ _ h) refl
+pub bump-more : (most n : ℕ) → n < most → (n + 1) ≡ upTo most n
+bump-more most n h = first _ (lt-ltb _ _ h) refl
 
-pub bump-same : (n : ℕ) → 300000 ≤ n → n ≡ bumped n
-bump-same n h = second _ (le-ltb _ _ h) refl
+pub bump-same : (most n : ℕ) → most ≤ n → n ≡ upTo most n
+bump-same most n h = second _ (le-ltb _ _ h) refl
 
 module _ (len place rows : ℕ) {step : Step} {r : Here} where
   pub nowhere-taken : {t : Token} {w : ℕ} {next : Cursor} → step ≡ Taken t w next → r ≡ over len place rows → r ≡ nowhereOf len place rows step

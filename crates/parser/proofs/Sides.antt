@@ -1,26 +1,24 @@
 -- A left side, which may be a path; and a row that words stand round, which widen no span.
 use mathlib.Core.Path.{_≡_, refl, sym, ap, subst, _∙_}
 use mathlib.Core.List.{List, [], _∷_, _++_, append-nil}
-use mathlib.Core.Bool.{Bool, true, false, not, _||_, _&&_}
+use mathlib.Core.Bool.{Bool, true, false, not, _&&_}
 use mathlib.Core.Option.{Option}
 use mathlib.Core.Logic.{_≢_}
-use Prim.Native.Nat.{ℕ, _+_, _*_, _≤_, _<_}
-use lib.Dec.{T, eqb, eqb→eq, eqb-refl, not-T}
-use lib.ListN.{length, length-append}
+use Prim.Native.Nat.{ℕ, _+_, _*_, _≤_}
+use lib.Dec.{T, eqb, eqb→eq, not-T}
+use lib.ListN.{length}
 use native.Mathlib.Omega.{arith}
-use Rattle.tokens.specs.declared.Refusal.{Refusal}
 use Rattle.grammar.specs.Words.{assign-signs}
-use Rattle.grammar.specs.Grammar.{Ask, Scope, same, Symbol, token, phrase, left-side, Look, found, one-of, ite}
+use Rattle.grammar.specs.Grammar.{Ask, Scope, same, Symbol, token, phrase, left-side, Look, one-of, ite}
 use Rattle.grammar.specs.Limits.{Counts, after, inside, kept}
 use Rattle.grammar.specs.Language.{roto}
 use Rattle.grammar.specs.Table.{rest-kinds}
 use Rattle.grammar.specs.Readings.{peek}
 use Rattle.grammar.specs.Runs.{may}
-use Rattle.grammar.specs.Rows.{Item, own, child, count, Draft, children-of, first-row}
+use Rattle.grammar.specs.Rows.{Item, own, count, Draft, children-of}
 use Rattle.grammar.specs.Rows as grammar
 use Rattle.grammar.specs.Refusals.{left, want, said}
-use Rattle.grammar.specs.Phrases as phrases
-use Rattle.grammar.proofs.Bools.{T→eq, F→eq, and-l}
+use Rattle.grammar.proofs.Bools.{F→eq, and-l}
 use Rattle.grammar.proofs.Frame.{no-text, with-own}
 use Rattle.grammar.proofs.Summary.{sum, sum-of}
 use Rattle.grammar.proofs.Open.{Left, Open, with-phrase, finish, pop, take, reads, wants, forks, signed, row-left, path-left}
@@ -28,7 +26,7 @@ use Rattle.answers.specs.Source.{source}
 use Rattle.parser.specs.declared.Here.{Here}
 use Rattle.parser.specs.declared.Node.{Node}
 use Rattle.parser.specs.Places.{passed, unusedAt, refusalAt}
-use Rattle.parser.specs.Going.{language, tokenOf, Stands, store, Tally, bare, lone, many, Holds, withNode, countOf, Phrase, Going, Whole, Stopped}
+use Rattle.parser.specs.Going.{language, tokenOf, Stands, store, Tally, many, withNode, Phrase, Going, Whole, Stopped}
 use Rattle.parser.proofs.Standing.{solid, solid-word, peeks, is-token, goes-past, says, lacking}
 use Rattle.parser.proofs.Tables.{store-length}
 use Rattle.parser.proofs.Tallies.{Leaves, no-children, children-append, children-twice, leaves-first}

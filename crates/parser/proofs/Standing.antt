@@ -2,7 +2,7 @@
 use mathlib.Core.Path.{_≡_, refl, sym, ap, subst, _∙_}
 use mathlib.Core.List.{List, [], _∷_}
 use mathlib.Core.Bool.{Bool, true, false, not, _&&_}
-use mathlib.Core.Logic.{_⊎_, inl, inr, _≢_}
+use mathlib.Core.Logic.{inl, inr, _≢_}
 use Prim.Native.Nat.{ℕ, _+_, _*_, _≤_, _<_}
 use lib.Dec.{T, eqb, eqb→eq, eqb-refl, T-not, not-T}
 use lib.ListN.{length}
@@ -16,7 +16,7 @@ use Rattle.grammar.specs.Grammar.{Token, Look, found, over, wrong, one-of}
 use Rattle.grammar.specs.Readings.{word-of, peek}
 use Rattle.grammar.specs.Refusals.{Why, said, said-at, said-text, lacks}
 use Rattle.grammar.specs.Refusals as refusals
-use Rattle.grammar.proofs.Bools.{and-l, and-r, or-l, or-cases, T→eq, F→eq}
+use Rattle.grammar.proofs.Bools.{and-l, and-r, or-l, or-cases, F→eq}
 use Rattle.grammar.proofs.Frame.{no-text}
 use Rattle.answers.specs.Source.{source, lookOf, lookAfter}
 use Rattle.answers.proofs.Ahead.{Steps, steps-token, steps-over, steps-wrong, step-goes}

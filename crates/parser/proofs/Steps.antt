@@ -3,25 +3,24 @@ use mathlib.Core.Path.{_≡_, refl, sym, ap, subst, _∙_}
 use mathlib.Core.List.{List, [], _∷_}
 use mathlib.Core.Bool.{Bool, true, false, not}
 use mathlib.Core.Logic.{_⊎_, inl, inr, _≢_}
-use Prim.Native.Nat.{ℕ, suc, _+_, _≤_, _<_}
+use Prim.Native.Nat.{ℕ, suc, _+_, _<_}
 use lib.Dec.{T, eqb, ltb, eqb→eq, eqb-refl, ltb→lt, lt→ltb, not-T}
-use lib.ListN.{length}
 use native.Mathlib.Numerals.{add-one}
 use native.Mathlib.Omega.{arith}
 use Rattle.chars.specs.Chars.{pick}
 use Rattle.tokens.specs.declared.Refusal.{Refusal}
-use Rattle.grammar.specs.Grammar.{plain, opens-bracket, closes-bracket, is-prefix, is-head, is-else-if, body, Token, Symbol, token, one-of}
+use Rattle.grammar.specs.Grammar.{plain, opens-bracket, closes-bracket, is-prefix, is-head, is-else-if, body, Token, Symbol, token}
 use Rattle.grammar.specs.Limits.{Counts, after, inside, kept}
-use Rattle.grammar.proofs.Bools.{T→eq, F→eq}
+use Rattle.parser.proofs.Laws.{bump-more}
 use Rattle.grammar.proofs.Open.{Left}
 use Rattle.parser.specs.declared.Here.{Here}
 use Rattle.parser.specs.declared.Limits.{Limits}
 use Rattle.parser.specs.declared.Node.{Node}
 use Rattle.parser.specs.declared.Read.{Read}
 use Rattle.parser.specs.declared.Read.the-variants.{Done, Refused}
-use Rattle.parser.specs.Places.{bumped, passed, unusedAt, refusalAt, tokenNode, listNode, past, unused, expected, under, opening, closing}
+use Rattle.parser.specs.Places.{capped, passed, unusedAt, refusalAt, tokenNode, listNode, past, unused, expected, under, opening, closing}
 use Rattle.parser.specs.Counted.{counts, opened, signed, plain as plainly, headed, chained, unchained, Alike}
-use Rattle.parser.specs.Going.{Stands, Tally, withWord, withToken, Phrase, Going, Stopped}
+use Rattle.parser.specs.Going.{Tally, withWord, withToken, Phrase, Going, Stopped}
 use Rattle.parser.proofs.Standing.{solid, is-word, the-word}
 use Rattle.parser.proofs.Going.{at, takes, refuses-word, refuses-past}
 
@@ -120,8 +119,8 @@ module _ (s : List ℕ) (h : Here) {r : Read} where
       go false f g = (no f, refused-is g)
 
 -- the counts behind a token
-small : (n : ℕ) → n < 32 → bumped n ≡ suc n
-small n h = ap (λ (b : Bool). pick b (n + 1) n) (T→eq (ltb n 300000) (lt→ltb n 300000 (omega arith))) ∙ add-one n
+small : (n : ℕ) → n < 32 → capped n ≡ suc n
+small n h = sym (bump-more 200 n (omega arith)) ∙ add-one n
 
 module _ (l : Limits) where
   pub counts-plain : after plain (counts l) ≡ counts (plainly l)
@@ -156,7 +155,7 @@ module _ (l : Limits) where
 
   pub counts-chained : l .heads < 32 → l .chain < 32 → after is-else-if (counts l) ≡ counts (headed (chained l))
   unfolding after
-  counts-chained h c = ap (λ (n : ℕ). record { brackets = l .brackets; prefixes = 0; else-ifs = n; heads = suc (l .heads) }) (sym (small (l .chain) c)) ∙ ap (λ (n : ℕ). record { brackets = l .brackets; prefixes = 0; else-ifs = bumped (l .chain); heads = n }) (sym (small (l .heads) h))
+  counts-chained h c = ap (λ (n : ℕ). record { brackets = l .brackets; prefixes = 0; else-ifs = n; heads = suc (l .heads) }) (sym (small (l .chain) c)) ∙ ap (λ (n : ℕ). record { brackets = l .brackets; prefixes = 0; else-ifs = capped (l .chain); heads = n }) (sym (small (l .heads) h))
 
   pub counts-chain-body : l .chain < 32 → inside body (after is-else-if (counts l)) ≡ counts (chained l)
   unfolding after inside

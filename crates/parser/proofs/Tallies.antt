@@ -1,8 +1,8 @@
 -- What a phrase has so far, kept up with each word and each row.
-use mathlib.Core.Path.{_≡_, refl, sym, ap, subst, _∙_}
+use mathlib.Core.Path.{_≡_, refl, ap, _∙_}
 use mathlib.Core.List.{List, [], _∷_, _++_}
 use mathlib.Core.Bool.{false}
-use mathlib.Core.Option.{Option, none, some}
+use mathlib.Core.Option.{none, some}
 use Prim.Native.Nat.{ℕ, _+_}
 use lib.Dec.{eqb}
 use native.Mathlib.Omega.{arith}
@@ -14,7 +14,7 @@ use Rattle.grammar.specs.Rows as grammar
 use Rattle.grammar.proofs.Summary.{Sum, sum, sum-of, sum-own, sum-child, sum-snoc-own, sum-snoc-child, sum-row, row-sum}
 use Rattle.parser.specs.declared.Here.{Here}
 use Rattle.parser.specs.declared.Node.{Node}
-use Rattle.parser.specs.Going.{tokenOf, asRow, Tally, bare, lone, many, Holds, withToken, withNode, rowOver}
+use Rattle.parser.specs.Going.{tokenOf, Tally, bare, lone, many, Holds, withToken, withNode, rowOver}
 
 -- the row that a phrase leaves, among what it has
 abbrev pub Leaves : Node → List Item → Type 0

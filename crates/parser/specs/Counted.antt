@@ -1,27 +1,26 @@
 -- The limits behind a token: document 01's counts.
 use mathlib.Core.Path.{_≡_}
-use Prim.Native.Nat.{ℕ}
 use Rattle.grammar.specs.Limits.{Counts}
 use Rattle.parser.specs.declared.Limits.{Limits}
-use Rattle.parser.specs.Places.{bumped}
+use Rattle.parser.specs.Places.{capped}
 
 abbrev pub counts : Limits → Counts
 counts l = record { brackets = l .brackets; prefixes = l .signs; else-ifs = l .chain; heads = l .heads }
 
 abbrev pub opened : Limits → Limits
-opened l = record { brackets = bumped (l .brackets); signs = 0; chain = l .chain; heads = l .heads }
+opened l = record { brackets = capped (l .brackets); signs = 0; chain = l .chain; heads = l .heads }
 
 abbrev pub signed : Limits → Limits
-signed l = record { brackets = l .brackets; signs = bumped (l .signs); chain = l .chain; heads = l .heads }
+signed l = record { brackets = l .brackets; signs = capped (l .signs); chain = l .chain; heads = l .heads }
 
 abbrev pub plain : Limits → Limits
 plain l = record { brackets = l .brackets; signs = 0; chain = l .chain; heads = l .heads }
 
 abbrev pub headed : Limits → Limits
-headed l = record { brackets = l .brackets; signs = 0; chain = l .chain; heads = bumped (l .heads) }
+headed l = record { brackets = l .brackets; signs = 0; chain = l .chain; heads = capped (l .heads) }
 
 abbrev pub chained : Limits → Limits
-chained l = record { brackets = l .brackets; signs = 0; chain = bumped (l .chain); heads = l .heads }
+chained l = record { brackets = l .brackets; signs = 0; chain = capped (l .chain); heads = l .heads }
 
 abbrev pub unchained : Limits → Limits
 unchained l = record { brackets = l .brackets; signs = 0; chain = 0; heads = l .heads }

@@ -5,7 +5,7 @@ use mathlib.Core.Path.{_≡_}
 use mathlib.Core.List.{List, [], _∷_}
 use mathlib.Core.Bool.{true}
 use mathlib.Core.Option.{Option, none, some}
-use Prim.Native.Nat.{ℕ, _+_, _*_, _≤_, _<_}
+use Prim.Native.Nat.{ℕ, _+_, _*_, _≤_}
 use lib.ListN.{length}
 use lib.Seq.{slice}
 use Rattle.tokens.specs.declared.Refusal.{Refusal}
@@ -18,7 +18,6 @@ use Rattle.grammar.specs.Language.{roto}
 use Rattle.grammar.specs.Rows.{Item, child, Draft, children-of, detail-for}
 use Rattle.grammar.specs.Rows as grammar
 use Rattle.grammar.specs.Refusals.{Why, said}
-use Rattle.grammar.specs.Refusals as refusals
 use Rattle.grammar.specs.Phrases as phrases
 use Rattle.grammar.proofs.Summary.{sum, sum-of, or-word, word-or-0}
 use Rattle.grammar.proofs.Open.{Left, Open}

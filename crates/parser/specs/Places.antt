@@ -1,6 +1,5 @@
 -- Where a reader stands, and what it answers there.
 use mathlib.Core.List.{List}
-use mathlib.Core.Bool.{Bool}
 use Prim.Native.Nat.{ℕ, _+_}
 use lib.Dec.{eqb, ltb}
 use lib.ListN.{length}
@@ -16,9 +15,15 @@ use Rattle.parser.specs.declared.Read.{Read}
 use Rattle.parser.specs.declared.Read.the-variants.{Done}
 use Rattle.parser.specs.declared.Read.the-variants as read
 
--- one more, of what never comes near 300,000
+-- one more, of what never comes near so many: 300,000 rows, 200 of what the limits count
+abbrev pub upTo : ℕ → ℕ → ℕ
+upTo most n = pick (ltb n most) (n + 1) n
+
 abbrev pub bumped : ℕ → ℕ
-bumped n = pick (ltb n 300000) (n + 1) n
+bumped n = upTo 300000 n
+
+abbrev pub capped : ℕ → ℕ
+capped n = upTo 200 n
 
 -- What a reader sees where the lexer takes this step: a token; the end of the source, word 0; no token, word 99.
 abbrev pub over : ℕ → ℕ → ℕ → Here

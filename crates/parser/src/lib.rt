@@ -2,7 +2,7 @@
 ghost use mathlib.Core.Path.{_≡_};
 ghost use Rattle.rows.specs.Rows.{putRow};
 ghost use Prim.Native.Nat.{_≤_};
-ghost use Rattle.parser.specs.Places.{bumped, nowhereOf, hereAt, passed, refusalAt, unused, past as pastToken, under, expected, opening, closing, later, nodeOf, plainRow};
+ghost use Rattle.parser.specs.Places.{bumped, capped, nowhereOf, hereAt, passed, refusalAt, unused, past as pastToken, under, expected, opening, closing, later, nodeOf, plainRow};
 ghost use Rattle.parser.specs.Counted.{opened, signed, plain, headed, chained, unchained};
 ghost use Rattle.parser.specs.declared.Read.the-variants.{Done, Refused};
 use rows::Row;
@@ -24,10 +24,10 @@ pub struct Here {
 
 // How many brackets, prefixes in a row, `else if` of a chain and heads stand open.
 pub struct Limits {
-    pub brackets: u64,
-    pub signs: u64,
-    pub chain: u64,
-    pub heads: u64,
+    pub brackets: u8,
+    pub signs: u8,
+    pub chain: u8,
+    pub heads: u8,
 }
 
 // A phrase's row, or 0 and the span of a token or list; a list's items.
@@ -45,10 +45,10 @@ pub enum Read {
 
 // The limits.
 
-fn one_more(n: u64) -> u64
-    ensures { λ r. ⌜ r ≡ bumped n ⌝ }
+fn one_more(n: u8) -> u8
+    ensures { λ r. ⌜ r ≡ capped n ⌝ }
 {
-    if n < 300000 { n + 1 } else { n }
+    if n < 200 { n + 1 } else { n }
 }
 
 fn row_more(n: usize) -> usize
@@ -244,7 +244,7 @@ pub fn expect(s: &[u8], here: Here, word: u64) -> Read
 }
 
 // Goes past a token under a limit, of which so many stand open.
-pub fn deeper(s: &[u8], here: Here, count: u64) -> Read
+pub fn deeper(s: &[u8], here: Here, count: u8) -> Read
     ensures { λ r. ⌜ r ≡ under (now (s .entry)) here count ⌝ }
 {
     if 32 <= count {

@@ -196,6 +196,11 @@ pub beyond : {s : List ℕ} {d : Counts} {n j : ℕ} {h : Here} {t : List ℕ} (
 beyond (Done m z) u = let w = further u refl in (w .stands, w .next)
 beyond (Refused e) u = tt
 
+-- behind two phrases
+pub beyond-both : {s : List ℕ} {d d′ : Counts} {n n′ j j′ : ℕ} {h z : Here} {t t′ : List ℕ} {r : Read} {m : Node} (r′ : Read) {t″ : List ℕ} → Answers (the s d n h t) j r t′ → r ≡ Done m z → Answers (the s d′ n′ z t′) j′ r′ t″ → Beyond s h r′
+beyond-both (Done m z) u e v = let x = further u e in let y = further v refl in (y .stands, let a = x .next in let b = y .next in omega arith)
+beyond-both (Refused e) u x v = tt
+
 -- A statement that may take a `;` was read up to there.
 abbrev Behind : ℕ → List ℕ → Here → List ℕ → Limits → ℕ → Here → List ℕ → Type 0
 Behind n s h t l end′ z t′ =

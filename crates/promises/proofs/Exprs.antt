@@ -2,7 +2,7 @@
 use mathlib.Core.Path.{_≡_, refl, sym, ap, subst, _∙_}
 use mathlib.Core.List.{List, [], _∷_}
 use mathlib.Core.Bool.{Bool, true, false, not, _&&_, _||_}
-use mathlib.Core.Option.{none, some}
+use mathlib.Core.Option.{some}
 use mathlib.Core.Logic.{_⊎_, inl, inr, _≢_}
 use Prim.Native.Nat.{ℕ, zero, suc, _+_, _≤_, _<_}
 use lib.Dec.{T, eqb, ltb, eqb→eq, eqb-refl, lt→ltb, ltb→lt, not-T, T-not}
@@ -31,15 +31,15 @@ use Rattle.parser.specs.declared.Read.the-variants.{Done, Refused}
 use Rattle.parser.specs.Places.{passed, later, under, refusalAt, nodeOf, plainRow}
 use Rattle.parser.specs.Counted.{counts, signed, plain as plainly}
 use Rattle.parser.specs.Going.{language, Stands, Tally, bare, lone, many, withWord, Phrase, Going, Stopped, Answers}
-use Rattle.parser.proofs.Standing.{solid, past-word, is-word}
+use Rattle.parser.proofs.Standing.{solid, past-word, is-word, the-word}
 use Rattle.parser.proofs.Going.{at, few-rows, takes, out, last, writes, next-phrase, reads-one, ends, kept-length, refuses-past, done, stopped, whole-of, stopped-of, relays, fewer}
 use Rattle.parser.proofs.Picks.{On, Off, begins-on, begins-any, into-on, into-off}
 use Rattle.parser.proofs.Steps.{under-done, under-refused, counts-signed, counts-plain}
 use Rattle.parser.proofs.Sides.{side-path, side-other, side-signed}
-use Rattle.promises.specs.Firsts.{operandFirsts, exprFirsts, levelOf, endsReturn, signKind, detailRow, returnRow}
+use Rattle.promises.specs.Firsts.{operandFirsts, exprFirsts, levelOf, endsReturn, signWords, signKind, detailRow}
 use Rattle.promises.specs.Promises.{the, LEVEL}
 use Rattle.promises.proofs.Answered.{further, done-is, finished, finished-in}
-use Rattle.promises.proofs.Alternatives.{but-for, expr-return-on, expr-side-on, returned-is, returned-on, returned-off, returned-any, assigned-on, assigned-off, binary-any, or-more-on, or-more-off, and-any, and-more-on, and-more-off, compare-any, compare-more-on, compare-more-off, sum-any, sum-more-on, sum-more-off, product-any, product-more-on, product-more-off, operand-not-on, operand-minus-on, rest-expr, rest-returned, rest-assigned, rest-binary, rest-or-more, rest-and, rest-and-more, rest-compare, rest-compare-more, rest-sum, rest-sum-more, rest-product, rest-product-more, rest-operand}
+use Rattle.promises.proofs.Alternatives.{but-for, expr-return-on, expr-side-on, returned-is, returned-on, returned-off, returned-any, assigned-on, assigned-off, binary-any, or-more-on, or-more-off, and-any, and-more-on, and-more-off, compare-any, compare-more-on, compare-more-off, sum-any, sum-more-on, sum-more-off, product-any, product-more-on, product-more-off, operand-not-on, operand-minus-on, rest-assigned, rest-binary, rest-or-more, rest-and, rest-and-more, rest-compare, rest-compare-more, rest-sum, rest-sum-more, rest-product, rest-product-more, rest-operand}
 
 -- a word's place in a list is 0 exactly where it isn't there
 pub placed : (c : ℕ) (w : List ℕ) → place-in c w ≢ 0 → T (one-of c w)
@@ -94,21 +94,11 @@ side-refused {f} g u = record { place = u .place; why = u .why; stops = g .opene
 -- Operands with a prefix
 
 -- whether one stands there
-pub no-sign : (x : ℕ) → not (eqb x 52) && not (eqb x 53) ≡ true → (x ≢ 52) × (x ≢ 53)
-no-sign x e =
-    let t = subst T (sym e) tt in
-    (differ 52 (and-l (not (eqb x 52)) (not (eqb x 53)) t), differ 53 (and-r (not (eqb x 52)) (not (eqb x 53)) t))
-  where
-    differ : (c : ℕ) → T (not (eqb x c)) → x ≢ c
-    differ c t q = T-not (eqb x c) t (subst (λ (y : ℕ). T (eqb x y)) q (eqb-refl x))
+pub no-sign : (x : ℕ) → (T (one-of x signWords) → ⊥) → (x ≢ 52) × (x ≢ 53)
+no-sign x n = (λ e. n (subst (λ (y : ℕ). T (one-of y signWords)) (sym e) tt), λ e. n (subst (λ (y : ℕ). T (one-of y signWords)) (sym e) tt))
 
-pub some-sign : (x : ℕ) → not (eqb x 52) && not (eqb x 53) ≡ false → (x ≡ 52) ⊎ (x ≡ 53)
-some-sign x = go (eqb x 52) (eqb x 53) (eqb→eq x 52) (eqb→eq x 53)
-  where
-    go : (b c : Bool) → (T b → x ≡ 52) → (T c → x ≡ 53) → not b && not c ≡ false → (x ≡ 52) ⊎ (x ≡ 53)
-    go true c f g e = inl (f tt)
-    go false true f g e = inr (g tt)
-    go false false f g e = absurd (subst T e tt)
+some-sign : (x : ℕ) → T (one-of x signWords) → (x ≡ 52) ⊎ (x ≡ 53)
+some-sign x t = elim (or-cases (eqb x 52) (eqb x 53 || false) t) [ inl e ↦ inl (eqb→eq x 52 e) | inr e ↦ inr (the-word e) ]
 
 -- its row, by the sign
 pub record Sign (b : Bool) (c : ℕ) : Type 0 where
@@ -118,9 +108,12 @@ pub record Sign (b : Bool) (c : ℕ) : Type 0 where
   pub own-row : eqb (signKind c) Rattle.grammar.specs.Table.literal-row ≡ false
   pub detail : detail-for (signKind c) c ≡ 0
 
-pub sign-of : (b : Bool) (c : ℕ) → (c ≡ 52) ⊎ (c ≡ 53) → Sign b c
-sign-of b c (inl e) = subst (Sign b) (sym e) (record { on = operand-not-on b; word = tt; some-row = refl; own-row = refl; detail = refl })
-sign-of b c (inr e) = subst (Sign b) (sym e) (record { on = operand-minus-on b; word = tt; some-row = refl; own-row = refl; detail = refl })
+pub sign-of : (b : Bool) (c : ℕ) → T (one-of c signWords) → Sign b c
+sign-of b c o = go (some-sign c o)
+  where
+    go : (c ≡ 52) ⊎ (c ≡ 53) → Sign b c
+    go (inl e) = subst (Sign b) (sym e) (record { on = operand-not-on b; word = tt; some-row = refl; own-row = refl; detail = refl })
+    go (inr e) = subst (Sign b) (sym e) (record { on = operand-minus-on b; word = tt; some-row = refl; own-row = refl; detail = refl })
 
 module _ (s : List ℕ) (l : Limits) (b : Bool) (h : Here) (t : List ℕ) (g : Stands s h) (c : Sign b (h .word)) {r : Read} (p : r ≡ under s h (l .signs)) where
   abbrev Operand : Phrase
@@ -296,12 +289,12 @@ operand-first x = but-for x exprFirsts return-words operandFirsts tt
 
 -- behind a return word: nothing, or an expr
 module _ {f : Phrase} {d : Counts} {ks : List Left} {h : Here} {t : List ℕ} {y : Tally} {v k : ℕ} {ss : List Symbol} where
-  returned-none : (b : Bool) → T (endsReturn (h .word) b) → Going f (at d (a (RETURNED b) ∷ ss) ∷ ks) h t y v k → Going f (at d [] ∷ at d ss ∷ ks) h t y v k
+  pub returned-none : (b : Bool) → T (endsReturn (h .word) b) → Going f (at d (a (RETURNED b) ∷ ss) ∷ ks) h t y v k → Going f (at d [] ∷ at d ss ∷ ks) h t y v k
   unfolding inside
   returned-none true e g = into-off returned-off refl (T-not (one-of (h .word) exprFirsts) e) g
   returned-none false e g = absurd e
 
-  returned-some : (b : Bool) → (T (endsReturn (h .word) b) → ⊥) → Going f (at d (a (RETURNED b) ∷ ss) ∷ ks) h t y v k → Going f (at d (returned-is b) ∷ at d ss ∷ ks) h t y v k
+  pub returned-some : (b : Bool) → (T (endsReturn (h .word) b) → ⊥) → Going f (at d (a (RETURNED b) ∷ ss) ∷ ks) h t y v k → Going f (at d (returned-is b) ∷ at d ss ∷ ks) h t y v k
   unfolding inside
   returned-some true n g = into-on returned-on refl (so (one-of (h .word) exprFirsts) n) g
     where
@@ -325,25 +318,6 @@ module _ (s : List ℕ) (l : Limits) (b : Bool) (h : Here) (t : List ℕ) (g : S
     module _ {x : Node} {z : Here} (q : r ≡ Done x z) where
       pub return-goes : Going Expr (at (counts (signed l)) (a (RETURNED b) ∷ row 27 ∷ []) ∷ []) z t (many (x .start) (x .end) 0 (some (h .word))) 0 4
       return-goes = signs-on l return-begins tt w p q
-
-      -- alone
-      pub return-ends : {j : ℕ} {r′ : Read} {t′ : List ℕ} → T (endsReturn (z .word) b) → j ≡ detail-for 27 (h .word) → r′ ≡ Done (nodeOf (returnRow (x .start) (x .end) 0 j)) (later z) → t′ ≡ putRow t (z .rows) (returnRow (x .start) (x .end) 0 j) → Answers Expr 1 r′ t′
-      unfolding inside
-      return-ends e v o y = finished (out (returned-none b e return-goes)) (omega arith) refl refl (ap (returnRow (x .start) (x .end) 0) v) o y
-
-      -- with an expr
-      module _ (n : T (endsReturn (z .word) b) → ⊥) where
-        return-with : Going Expr (at (counts (signed l)) (returned-is b) ∷ at (counts (signed l)) (row 27 ∷ []) ∷ []) z t (many (x .start) (x .end) 0 (some (h .word))) 0 4
-        return-with = returned-some b n return-goes
-
-        module _ {p′ : Limits} (v : p′ ≡ signed l) {r′ : Read} {t′ : List ℕ} (u : Answers (the s (counts p′) (EXPR b) z t) 1 r′ t′) where
-          pub return-fails : {e : Refusal} → r′ ≡ Refused e → Answers Expr 1 r′ t′
-          unfolding inside
-          return-fails e = relays return-with (sym (ap counts v)) u e
-
-          pub return-valued : {m : Node} {h′ : Here} {j : ℕ} {r″ : Read} {t″ : List ℕ} → r′ ≡ Done m h′ → j ≡ detail-for 27 (h .word) → r″ ≡ Done (nodeOf (returnRow (x .start) (m .end) 1 j)) (later h′) → t″ ≡ putRow t′ (h′ .rows) (returnRow (x .start) (m .end) 1 j) → Answers Expr 1 r″ t″
-          unfolding inside
-          return-valued {m = m} e i o y = finished (out (reads-one return-with (rest-expr b) (sym (ap counts v)) (whole-of u e))) (omega arith) refl refl (ap (returnRow (x .start) (m .end) 1) i) o y
 
   -- binary, or a left side
   module _ (w : T (one-of (h .word) operandFirsts)) {r : Read} {t′ : List ℕ} (u : Answers (the s (counts l) (BINARY b) h t) 1 r t′) where

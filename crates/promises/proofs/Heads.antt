@@ -29,10 +29,10 @@ use Rattle.parser.proofs.Standing.{solid, past-word, is-word, the-word}
 use Rattle.parser.proofs.Going.{at, takes, out, reads-one, refuses-in, refuses-past, relays, whole-of, stopped-of, stopped, fewer}
 use Rattle.parser.proofs.Picks.{On, begins-on, begins-any, into-on, into-off, refuses-off}
 use Rattle.parser.proofs.Steps.{under-done, under-refused, counts-plain, counts-headed, counts-body, counts-chained, counts-chain-body, counts-same, counts-opened, alike-counts, expects, misses, opens-on, opens-off, opening-done}
-use Rattle.promises.specs.Promises.{the, Anyhow, Partly, Chained, Elsed, Matched}
-use Rattle.promises.proofs.Alternatives.{four-off, else-on, else-off, elses-off, else-if-any, else-if-is}
+use Rattle.promises.specs.Promises.{the, Anyhow, Partly, Chained, Tested, Elsed, Matched}
+use Rattle.promises.proofs.Alternatives.{four-off, else-on, else-off, elses-block-on, elses-off, else-if-any, else-if-is}
 use Rattle.promises.proofs.Answered.{of-text, none-fits, not-first, finished}
-use Rattle.promises.proofs.Partly.{partly, partly-of, partly-stops, partly-stopped}
+use Rattle.promises.proofs.Partly.{partly, partly-stops}
 
 -- a phrase in it, by the answer of its reader
 module _ {f : Phrase} {s : List ℕ} {d d′ : Counts} {ks : List Left} {h : Here} {t t′ : List ℕ} {y : Tally} {v k : ℕ} {ss : List Symbol} {o : Scope} {n j : ℕ} {r : Read} (q : f .text ≡ s) (e : inside o d ≡ d′) (u : Answers (the s d′ n h t) j r t′) where
@@ -109,28 +109,18 @@ module _ {f : Phrase} {s : List ℕ} {d d′ : Counts} {ss : List Symbol} {h : H
   unfolding inside
   head-fails y = stopped y (refuses-it q z u g y)
 
--- `if expr block [else block or if]` from behind its `if` on
-module _ {s : List ℕ} {i : Here} {t₀ : List ℕ} {l l′ : Limits} {start : ℕ} {r₁ : Read} {t₁ : List ℕ} (p : l′ ≡ headed l) (u₁ : Answers (the s (counts l′) (EXPR no-records) i t₀) 1 r₁ t₁) where
-  pub if-fails : {x : Refusal} → r₁ ≡ Refused x → Chained s i t₀ l start r₁ t₁
-  if-fails e₁ f d e w k q z b g = head-fails q (z ∙ ap counts (sym p)) g u₁ e₁
+-- `expr block` behind an `if`
+module _ {s : List ℕ} {i : Here} {t₀ : List ℕ} {l l′ : Limits} {r₁ : Read} {t₁ : List ℕ} (p : l′ ≡ headed l) (u₁ : Answers (the s (counts l′) (EXPR no-records) i t₀) 1 r₁ t₁) where
+  pub test-fails : {y : Refusal} → r₁ ≡ Refused y → Tested s i t₀ l r₁ t₁
+  unfolding inside
+  test-fails e₁ f d ss x e w k q z b g = partly-stops e₁ (refuses-it q (z ∙ ap counts (sym p)) u₁ g e₁)
 
-  module _ {m₁ : Node} {h₁ : Here} (e₁ : r₁ ≡ Done m₁ h₁) {r₂ : Read} {t₂ : List ℕ} (u₂ : Answers (the s (counts l) BLOCK h₁ t₁) 1 r₂ t₂) where
-    pub if-block-fails : {x : Refusal} → r₂ ≡ Refused x → Chained s i t₀ l start r₂ t₂
-    if-block-fails e₂ f d e w k q z b g = stopped e₂ (refuses-it q b u₂ (head-expr q (z ∙ ap counts (sym p)) g u₁ e₁) e₂)
-
-    module _ {m₂ : Node} {h₂ : Here} (e₂ : r₂ ≡ Done m₂ h₂) {r₃ : Read} {t₃ : List ℕ} (u₃ : Elsed s h₂ t₂ l (m₂ .end) r₃ t₃) where
-      elsed : (f : Phrase) (d : Counts) (e w k : ℕ) → f .text ≡ s → d ≡ counts (headed l) → inside body d ≡ counts l → Going f (at d (a (EXPR no-records) ∷ behind BLOCK ∷ behind ELSE ∷ row 28 ∷ []) ∷ []) i t₀ (many start e 0 (some w)) 0 k → Partly f r₃ t₃ (λ m h′. Going f (at d (row 28 ∷ []) ∷ []) h′ t₃ (many start (m .end) (2 + m .children) (some w)) 0 (k + 1 + 1))
-      elsed f d e w k q z b g = u₃ f d (row 28 ∷ []) [] start 2 w 0 (k + 1 + 1) q b (reads-it q b u₂ (head-expr q (z ∙ ap counts (sym p)) g u₁ e₁) refl e₂)
-
-      pub if-else-fails : {x : Refusal} → r₃ ≡ Refused x → Chained s i t₀ l start r₃ t₃
-      if-else-fails e₃ f d e w k q z b g = stopped e₃ (partly-stopped (elsed f d e w k q z b g) e₃)
-
-      pub if-ends : {m₃ : Node} {h₃ : Here} {v : Row} {r : Read} {t : List ℕ} → r₃ ≡ Done m₃ h₃ → v ≡ plainRow 28 start (m₃ .end) (m₃ .children + 2) → r ≡ Done (nodeOf v) (later h₃) → t ≡ putRow t₃ (h₃ .rows) v → Chained s i t₀ l start r t
-      if-ends {m₃} e₃ o x y f d e w k q z b g = finished (partly-of (elsed f d e w k q z b g) e₃) (omega arith) refl refl (o ∙ ap (plainRow 28 start (m₃ .end)) (omega arith)) x y
+  pub test-block : {m₁ : Node} {h₁ : Here} {r₂ : Read} {t₂ : List ℕ} → r₁ ≡ Done m₁ h₁ → Answers (the s (counts l) BLOCK h₁ t₁) 1 r₂ t₂ → Tested s i t₀ l r₂ t₂
+  test-block e₁ u₂ f d ss x e w k q z b g = reads-partly q b u₂ (head-expr q (z ∙ ap counts (sym p)) g u₁ e₁) refl
 
 -- an `if` that no `else` stands before, and one that does
 pub head-chained : {f : Phrase} {l : Limits} {h : Here} {t : List ℕ} {start : ℕ} {r : Read} {t′ : List ℕ} → Head f l (a (EXPR no-records) ∷ behind BLOCK ∷ behind ELSE ∷ row 28 ∷ []) h t start 0 → Chained (f .text) h t l start r t′ → Answers f 1 r t′
-head-chained {f} b u = u f (b .at-counts) (b .end) (b .sign) 4 refl (b .headed-so) (b .body-so) (b .going)
+head-chained {f} b u = u f (b .at-counts) (b .end) (b .sign) refl (b .headed-so) (b .body-so) (b .going)
 
 pub four-fails : {s : List ℕ} {l : Limits} {h : Here} {t : List ℕ} {r : Read} → Stands s h → h .word ≢ 69 → h .word ≢ 81 → h .word ≢ 67 → h .word ≢ 73 → r ≡ unused h → Answers (the s (counts l) FOUR h t) 1 r t
 four-fails g i w f m e = none-fits four-off g (not-first _ 69 (73 ∷ 81 ∷ 67 ∷ []) i (not-first _ 73 (81 ∷ 67 ∷ []) m (not-first _ 81 (67 ∷ []) w (not-first _ 67 [] f (λ x. x))))) e
@@ -213,24 +203,25 @@ module _ {f : Phrase} {l l′ : Limits} {h : Here} {t : List ℕ} {x : ℕ} {r�
   unfolding after inside
   match-ends e₂ o v = v f (after opens-bracket (b .at-counts)) _ _ refl (ap (after opens-bracket) (b .body-so) ∙ counts-opened l (opening-done (f .text) h₁ 40 (l .brackets) u₂ e₂ .1) ∙ ap counts (sym o)) (fewer 1 (omega arith) (opens-on 40 (headed l) matches tt match-alike u₂ e₂))
 
--- perhaps `else` and a block or `if`
-pub else-none : {s : List ℕ} {h : Here} {t : List ℕ} {l : Limits} {end : ℕ} {r : Read} → h .word ≢ 63 → r ≡ Done (record { kind = 0; start = end; end = end; children = 0 }) h → Elsed s h t l end r t
-else-none {h = h} {t = t} {end = end} n e f d ss ks x c w v k q b g = partly e (subst (λ (i : ℕ). Going f (at d ss ∷ ks) h t (many x end i (some w)) v k) (omega arith) (out (into-off else-off refl (λ m. n (the-word m)) g)))
+-- no `else`: the `if` ends
+pub else-none : {f : Phrase} {d : Counts} {h : Here} {t : List ℕ} {x e w k : ℕ} {v : Row} {r : Read} {t′ : List ℕ} → Going f (at d (behind ELSE ∷ row 28 ∷ []) ∷ []) h t (many x e 2 (some w)) 0 k → 2 ≤ k → h .word ≢ 63 → v ≡ plainRow 28 x e 2 → r ≡ Done (nodeOf v) (later h) → t′ ≡ putRow t (h .rows) v → Answers f 1 r t′
+else-none g j n v r t = finished (out (into-off else-off refl (λ m. n (the-word m)) g)) j refl refl v r t
 
-module _ {s : List ℕ} {h h₁ : Here} {t : List ℕ} (e : h .word ≡ 63) (z : h₁ ≡ passed s h) where
-  else-word : {f : Phrase} {d : Counts} {ss : List Symbol} {ks : List Left} {x i c w v k : ℕ} → f .text ≡ s → Going f (at d (behind ELSE ∷ ss) ∷ ks) h t (many x i c (some w)) v k → Going f (at (after plain (inside body d)) (a ELSE-PART ∷ []) ∷ at d ss ∷ ks) h₁ t (many x (h .end) c (some w)) v (k + 4)
-  unfolding kept
-  else-word q g = takes (into-on else-on refl (is-word e) g) tt (is-word e) tt (subst (λ (y : List ℕ). h₁ ≡ passed y h) (sym q) z)
+-- behind `else`
+pub else-word : {f : Phrase} {d : Counts} {l : Limits} {ss : List Symbol} {ks : List Left} {h h₁ : Here} {t : List ℕ} {x i c w v k : ℕ} → inside body d ≡ counts l → l .signs ≡ 0 → h .word ≡ 63 → h₁ ≡ passed (f .text) h → Going f (at d (behind ELSE ∷ ss) ∷ ks) h t (many x i c (some w)) v k → Going f (at (counts l) (a ELSE-PART ∷ []) ∷ at d ss ∷ ks) h₁ t (many x (h .end) c (some w)) v (k + 4)
+unfolding kept
+else-word {f} {d} {l} {ss} {ks} {h} {h₁} {t} {x} {i} {c} {w} {v} {k} b z e p g =
+    subst (λ (y : Counts). Going f (at y (a ELSE-PART ∷ []) ∷ at d ss ∷ ks) h₁ t (many x (h .end) c (some w)) v (k + 4)) (ap (after plain) b ∙ counts-plain l ∙ ap (λ (n : ℕ). record { brackets = l .brackets; prefixes = n; else-ifs = l .chain; heads = l .heads }) (sym z)) (takes (into-on else-on refl (is-word e) g) tt (is-word e) tt p)
 
-  pub else-fails : {l : Limits} {end : ℕ} {r : Read} → h₁ .word ≢ 69 → h₁ .word ≢ 40 → r ≡ unused h₁ → Elsed s h t l end r t
-  else-fails i o u f d ss ks x c w v k q b g = partly-stops u (refuses-off elses-off (not-first _ 69 (40 ∷ []) i (not-first _ 40 [] o (λ y. y))) (else-word q g))
+-- the block there
+pub else-fails : {s : List ℕ} {h : Here} {t : List ℕ} {l : Limits} {start : ℕ} {r : Read} → h .word ≢ 69 → h .word ≢ 40 → r ≡ unused h → Elsed s h t l start r t
+else-fails i o u f d e w k q g = stopped u (refuses-off elses-off (not-first _ 69 (40 ∷ []) i (not-first _ 40 [] o (λ y. y))) g)
 
-  -- behind `else` a phrase of kind n, which this word begins
-  module _ {n o : ℕ} (y : On ELSE-PART (some (a n ∷ [])) (o ∷ [])) (i : h₁ .word ≡ o) {l l₁ : Limits} (p : l₁ ≡ plainly l) {end : ℕ} {r : Read} {t₁ : List ℕ} (u : Answers (the s (counts l₁) n h₁ t) 1 r t₁) where
-    pub elses-fails : {j : Refusal} → r ≡ Refused j → Elsed s h t l end r t₁
-    unfolding inside
-    elses-fails j f d ss ks x c w v k q b g = partly-stops j (refuses-it q (counts-behind b p) u (into-on y refl (is-word i) (else-word q g)) j)
+module _ {s : List ℕ} {h : Here} {t : List ℕ} (i : h .word ≡ 40) {l : Limits} {start : ℕ} {r : Read} {t₁ : List ℕ} (u : Answers (the s (counts l) BLOCK h t) 1 r t₁) where
+  pub else-block-fails : {y : Refusal} → r ≡ Refused y → Elsed s h t l start r t₁
+  unfolding inside
+  else-block-fails j f d e w k q g = stopped j (refuses-it q refl u (into-on elses-block-on refl (is-word i) g) j)
 
-    pub elses-ends : {m : Node} {j : Here} {r₁ : Read} → one-of n rest-kinds ≡ false → r ≡ Done m j → r₁ ≡ Done (record { kind = 0; start = m .start; end = m .end; children = 1 }) j → Elsed s h t l end r₁ t₁
-    unfolding inside
-    elses-ends a₁ e₁ j f d ss ks x c w v k q b g = partly j (fewer k (omega arith) (out (out (reads-it q (counts-behind b p) u (into-on y refl (is-word i) (else-word q g)) a₁ e₁))))
+  pub else-ends : {m : Node} {j : Here} {v : Row} {r₁ : Read} {t₂ : List ℕ} → r ≡ Done m j → v ≡ plainRow 28 start (m .end) 3 → r₁ ≡ Done (nodeOf v) (later j) → t₂ ≡ putRow t₁ (j .rows) v → Elsed s h t l start r₁ t₂
+  unfolding inside
+  else-ends p v o y f d e w k q g = finished (out (out (reads-it q refl u (into-on elses-block-on refl (is-word i) g) refl p))) (omega arith) refl refl v o y

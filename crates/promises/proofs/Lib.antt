@@ -1,4 +1,5 @@
 pub mod Alternatives
+pub mod Overs
 pub mod Partly
 pub mod Tests
 pub mod Answered
@@ -14,3 +15,5 @@ pub mod Operands
 pub mod Heads
 pub mod Arms
 pub mod Blocks
+pub mod Returns
+pub mod Chains

@@ -2,7 +2,7 @@
 use mathlib.Core.Path.{_≡_, sym, subst, _∙_}
 use mathlib.Core.Bool.{Bool, true, false, not}
 use lib.Dec.{T}
-use Rattle.grammar.proofs.Bools.{T→eq, F→eq}
+use Rattle.grammar.proofs.Bools.{T→eq}
 
 pub true-so : {b c : Bool} → b ≡ c → b ≡ true → T c
 true-so e q = subst T (sym q ∙ e) tt

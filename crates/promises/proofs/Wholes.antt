@@ -4,11 +4,10 @@ use mathlib.Core.List.{List, [], _∷_}
 use mathlib.Core.Bool.{Bool, true, false, not}
 use mathlib.Core.Logic.{_≢_}
 use Prim.Native.Nat.{ℕ, _+_, _≤_, _<_}
-use lib.Dec.{T, ltb, ltb→lt, lt→ltb}
+use lib.Dec.{T, ltb, ltb→lt}
 use lib.ListN.{length, length-append}
 use lib.Seq.{slice}
 use native.Mathlib.Omega.{arith}
-use Rattle.chars.specs.Chars.{pick}
 use Rattle.tokens.specs.declared.Refusal.{Refusal}
 use Rattle.rows.specs.declared.Row.{Row}
 use Rattle.rows.specs.Rows.{putRow}
@@ -27,7 +26,6 @@ use Rattle.grammar.specs.Language.{goal}
 use Rattle.grammar.specs.Answers.{refused}
 use Rattle.grammar.specs.Answers as answers
 use Rattle.grammar.specs.Phrases as phrases
-use Rattle.grammar.proofs.Bools.{T→eq}
 use Rattle.grammar.proofs.Frame.{with-own}
 use Rattle.grammar.proofs.Summary.{sum, sum-of}
 use Rattle.grammar.proofs.Open.{Open, start, take, notes, pop, finish}
@@ -37,6 +35,7 @@ use Rattle.parser.specs.declared.Here.{Here}
 use Rattle.parser.specs.declared.Node.{Node}
 use Rattle.parser.specs.declared.Read.{Read}
 use Rattle.parser.specs.declared.Read.the-variants.{Done, Refused}
+use Rattle.parser.proofs.Laws.{bump-more}
 use Rattle.parser.specs.Places.{bumped, hereAt, unused, passed, later, refusalAt, nodeOf, plainRow}
 use Rattle.parser.specs.Going.{language, tokenOf, Stands, asRow, store, Tally, bare, lone, many, Holds, withNode, countOf, Phrase, Going, Stopped, Answers}
 use Rattle.parser.proofs.Standing.{here-place, here-rows, says, is-over, not-over, solid-word, is-token, goes-past, more-rows, next-small}
@@ -47,9 +46,6 @@ use Rattle.promises.specs.Firsts.{declarationFirsts}
 use Rattle.promises.specs.Promises.{the, FinishedIs, Finished}
 use Rattle.promises.proofs.Alternatives.{literal-is, literal-any, tree-any, declarations-on, declarations-off}
 use Rattle.promises.proofs.Answered.{kept-either}
-
-pub bumped-is : (n : ℕ) → n < 300000 → bumped n ≡ n + 1
-bumped-is n h = ap (λ (b : Bool). pick b (n + 1) n) (T→eq (ltb n 300000) (lt→ltb n 300000 h))
 
 -- a literal: its row is what its token says
 abbrev literalRow : Here → ℕ → ℕ → ℕ → Row
@@ -79,7 +75,7 @@ module _ (s : List ℕ) (d : Counts) (h : Here) (t : List ℕ) (g : Stands s h) 
         let short = g .short in
         let next = b .2 in
         let same-rows = b .3 in
-        let more : bumped ((passed s h) .rows) ≡ (passed s h) .rows + 1 = bumped-is ((passed s h) .rows) (omega arith) in
+        let more : bumped ((passed s h) .rows) ≡ (passed s h) .rows + 1 = sym (bump-more 300000 ((passed s h) .rows) (omega arith)) in
         let had = g .few in
         let opened = pop (source s) language (notes (source s) language (take (source s) language (c .0) tt o (subst (λ (y : Literal). T (holds y)) (sym q ∙ p) tt) (start (source s) language literal-is (picks-else s g literal-any (λ z. z))))) in
         done (w .0 ∙ ap (λ (z : Here). Done (nodeOf (literalRow h k v e)) (later z)) j) (record {
@@ -202,7 +198,7 @@ module _ (s t₀ : List ℕ) (short : length s ≤ 65535) {i : Here} (b : i ≡ 
           let z = first-rows s short b in
           let r = g .rows in
           let few = few-rows g in
-          let more = bumped-is (h .rows) (few .0) in
+          let more = sym (bump-more 300000 (h .rows) (few .0)) in
           let len = length-append (d .rows) (tree-row (length s) d ∷ []) in
           let k : grammar.count (d .items) ≡ c = holds-count (x .tally) (d .items) (g .holds) ∙ x .count in
           let at-start : t ≡ store t₀ 0 (d .rows) = g .stored ∙ ap (λ (q : ℕ). store t₀ q (d .rows)) z in

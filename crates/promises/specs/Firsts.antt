@@ -3,7 +3,7 @@ use mathlib.Core.Path.{_≡_}
 use mathlib.Core.List.{List, [], _∷_, _++_}
 use mathlib.Core.Bool.{Bool, true, false, not}
 use mathlib.Core.Logic.{_≢_}
-use Prim.Native.Nat.{ℕ, _≤_, _<_}
+use Prim.Native.Nat.{ℕ, _<_}
 use lib.Dec.{eqb}
 use Rattle.chars.specs.Chars.{pick}
 use Rattle.rows.specs.declared.Row.{Row}
@@ -33,6 +33,9 @@ abbrev pub declarationFirsts : List ℕ
 declarationFirsts = 'const' ∷ 'fn' ∷ 'import' ∷ 'test' ∷ filter-words
 
 -- `?`, `( list of exprs )`, `. name` behind an atom
+abbrev pub signWords : List ℕ
+signWords = '!' ∷ '-' ∷ []
+
 abbrev pub postfixSigns : List ℕ
 postfixSigns = '?' ∷ open-paren ∷ dot ∷ []
 
@@ -80,11 +83,7 @@ abbrev pub onward : Here → Read → Type 0
 onward h (Done m z) = h .next < z .next
 onward h (Refused e) = Prim.Unit {0}
 
--- what was read has few rows; 1 child at most
+-- what was read has few rows
 abbrev pub few : Read → Type 0
 few (Done m h) = m .children < 300000
 few (Refused e) = Prim.Unit {0}
-
-abbrev pub single : Read → Type 0
-single (Done m h) = m .children ≤ 1
-single (Refused e) = Prim.Unit {0}

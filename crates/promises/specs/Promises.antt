@@ -4,20 +4,21 @@
 -- before, r the answer and t′ the table behind it.
 use mathlib.Core.Path.{_≡_}
 use mathlib.Core.List.{List, [], _∷_}
-use mathlib.Core.Bool.{Bool, true, false}
-use mathlib.Core.Option.{Option, none, some}
+use mathlib.Core.Bool.{Bool, true}
+use mathlib.Core.Option.{Option, some}
 use mathlib.Core.Logic.{_⊎_, _≢_}
 use Prim.Native.Nat.{ℕ, zero, suc, _+_, _≤_, _<_}
 use lib.Dec.{T, ltb}
-use lib.ListN.{length}
-use Rattle.tokens.specs.declared.Refusal.{Refusal}
+use lib.ListN.{length, getD}
 use Rattle.rows.specs.declared.Row.{Row}
 use Rattle.rows.specs.Rows.{putRow}
+use Rattle.chars.specs.Chars.{pick}
 use Rattle.grammar.specs.Words.{open-brace, close-brace, dot, names}
-use Rattle.grammar.specs.Grammar.{plain, closes-bracket, body, Symbol, phrase, one-of}
+use Rattle.grammar.specs.Grammar.{plain, closes-bracket, body, Symbol, one-of}
 use Rattle.grammar.specs.Limits.{Counts, after, inside}
 use Rattle.grammar.specs.Table.{a, behind, row, part, opens, closes}
-use Rattle.grammar.specs.Kinds.{no-records, RESULT, LET-TYPE, IMPORTPATH-DOT, STATEMENTS, STATEMENT, AFTER-FOUR, AFTER-EXPR, FOUR, FIELDS, FIELDS-MORE, FIELD, ELSE, BLOCK, ARMS, ARM-BODY, ARM-COMMA, ARM-NEXT, GUARD, EXPR, BINARY, AND, COMPARE, SUM, PRODUCT, OPERAND, POSTFIX, AFTER-PATH}
+use Rattle.grammar.specs.Kinds.{no-records, RESULT, LET-TYPE, IMPORTPATH-DOT, STATEMENTS, AFTER-FOUR, AFTER-EXPR, FIELDS, FIELDS-MORE, FIELD, ELSE, ELSE-PART, BLOCK, ARMS, ARM-BODY, ARM-COMMA, ARM-NEXT, GUARD, EXPR, RETURNED, BINARY, AND, COMPARE, SUM, PRODUCT, OPERAND, POSTFIX, AFTER-PATH}
+use Rattle.grammar.specs.Rows.{detail-for}
 use Rattle.grammar.specs.Rows as grammar
 use Rattle.grammar.specs.Answers.{accepted, refused}
 use Rattle.grammar.specs.Answers as answers
@@ -29,7 +30,7 @@ use Rattle.parser.specs.declared.Limits.{Limits}
 use Rattle.parser.specs.declared.Node.{Node}
 use Rattle.parser.specs.declared.Read.{Read}
 use Rattle.parser.specs.declared.Read.the-variants.{Done, Refused}
-use Rattle.parser.specs.Places.{passed, later, unused, refusalAt, nodeOf, plainRow}
+use Rattle.parser.specs.Places.{passed, later, unused, under, refusalAt, nodeOf, plainRow}
 use Rattle.parser.specs.Counted.{counts, headed, Alike}
 use Rattle.parser.specs.Going.{Stands, store, Tally, bare, lone, many, withNode, Phrase, Going, Stopped, Answers}
 use Rattle.parser.proofs.Going.{at}
@@ -143,18 +144,49 @@ Fielded s h t l start paths r t′ =
     ⊎ (Going f (at d (a FIELD ∷ a FIELDS-MORE ∷ closes close-brace ∷ fieldsTail paths ss) ∷ ks) h t (many start e paths w) 0 k × T (one-of (h .word) names))
     → Partly f r t′ (λ m h′. Going f (at (after closes-bracket d) ss ∷ ks) h′ t′ (lone (m .kind) (m .start) (m .end)) 0 k)
 
--- An `if` from behind that word to its end; what may follow its block: `else` and a block, or `else if`.
-abbrev pub Chained : List ℕ → Here → List ℕ → Limits → ℕ → Read → List ℕ → Type 0
-Chained s h t l start r t′ =
-    (f : Phrase) (d : Counts) (e w k : ℕ) → f .text ≡ s → d ≡ counts (headed l) → inside body d ≡ counts l
-    → Going f (at d (a (EXPR no-records) ∷ behind BLOCK ∷ behind ELSE ∷ row 28 ∷ []) ∷ []) h t (many start e 0 (some w)) 0 k
+-- The rows of n phrases that each end with the next, over the answer of the innermost: kind k, c children, and by its
+-- index where each starts and its detail. A refusal stays what it is.
+abbrev pub overRow : List ℕ → List ℕ → ℕ → ℕ → ℕ → Node → Row
+overRow starts details k c n m = record { kind = k; start = getD starts n 0; end = m .end; children = c; value = 0; detail = getD details n 0 }
+
+unfoldable pub overRead : List ℕ → List ℕ → ℕ → ℕ → ℕ → Read → Read
+overRead starts details k c zero r = r
+overRead starts details k c (suc n) (Done m h) = overRead starts details k c n (Done (nodeOf (overRow starts details k c n m)) (later h))
+overRead starts details k c (suc n) (Refused e) = Refused e
+
+unfoldable pub overTable : List ℕ → List ℕ → ℕ → ℕ → ℕ → Read → List ℕ → List ℕ
+overTable starts details k c zero r t = t
+overTable starts details k c (suc n) (Done m h) t = overTable starts details k c n (Done (nodeOf (overRow starts details k c n m)) (later h)) (putRow t (h .rows) (overRow starts details k c n m))
+overTable starts details k c (suc n) (Refused e) t = t
+
+-- A return form from behind its word on, if no other stands there.
+abbrev pub Last : List ℕ → Here → List ℕ → Limits → Bool → Node → ℕ → Read → List ℕ → Type 0
+Last s h t l b m detail r t′ =
+    (f : Phrase) (w : ℕ) → f .text ≡ s → detail ≡ detail-for 27 w
+    → Going f (at (counts l) (a (RETURNED b) ∷ row 27 ∷ []) ∷ []) h t (many (m .start) (m .end) 0 (some w)) 0 4
     → Answers f 1 r t′
 
+-- An `if` from behind that word to its end; its expr and its block; the block behind its `else`; past the `if` there.
+abbrev pub Chained : List ℕ → Here → List ℕ → Limits → ℕ → Read → List ℕ → Type 0
+Chained s h t l start r t′ =
+    (f : Phrase) (d : Counts) (e w : ℕ) → f .text ≡ s → d ≡ counts (headed l) → inside body d ≡ counts l
+    → Going f (at d (a (EXPR no-records) ∷ behind BLOCK ∷ behind ELSE ∷ row 28 ∷ []) ∷ []) h t (many start e 0 (some w)) 0 4
+    → Answers f 1 r t′
+
+abbrev pub Tested : List ℕ → Here → List ℕ → Limits → Read → List ℕ → Type 0
+Tested s h t l r t′ =
+    (f : Phrase) (d : Counts) (ss : List Symbol) (x e w k : ℕ) → f .text ≡ s → d ≡ counts (headed l) → inside body d ≡ counts l
+    → Going f (at d (a (EXPR no-records) ∷ behind BLOCK ∷ ss) ∷ []) h t (many x e 0 (some w)) 0 k
+    → Partly f r t′ (λ m h′. Going f (at d ss ∷ []) h′ t′ (many x (m .end) 2 (some w)) 0 (k + 1 + 1))
+
 abbrev pub Elsed : List ℕ → Here → List ℕ → Limits → ℕ → Read → List ℕ → Type 0
-Elsed s h t l end r t′ =
-    (f : Phrase) (d : Counts) (ss : List Symbol) (ks : List Left) (x c w v k : ℕ) → f .text ≡ s → inside body d ≡ counts l
-    → Going f (at d (behind ELSE ∷ ss) ∷ ks) h t (many x end c (some w)) v k
-    → Partly f r t′ (λ m h′. Going f (at d ss ∷ ks) h′ t′ (many x (m .end) (c + m .children) (some w)) v k)
+Elsed s h t l start r t′ =
+    (f : Phrase) (d : Counts) (e w k : ℕ) → f .text ≡ s
+    → Going f (at (counts l) (a ELSE-PART ∷ []) ∷ at d (row 28 ∷ []) ∷ []) h t (many start e 2 (some w)) 0 (k + 4)
+    → Answers f 1 r t′
+
+abbrev pub linked : List ℕ → Here → Limits → Read
+linked s h l = pick (ltb (l .chain) 32) (under s h (l .heads)) (Refused (refusalAt 9 (h .start) (h .end)))
 
 -- The arms of a match, from behind its `{` to its end; one arm, with n 1 if another may follow and 0 if not; an arm's
 -- body.

@@ -6,18 +6,19 @@ ghost use mathlib.Core.Bool.{true, false};
 ghost use mathlib.Core.Logic.{_⊎_, _≢_};
 ghost use Prim.Native.Nat.{_+_, _≤_};
 ghost use lib.Dec.{T};
+ghost use lib.ListN.{getD};
 ghost use Rattle.rows.specs.Rows.{putRow};
-ghost use Rattle.grammar.specs.Words.{names, path-items, literals, four-words, assign-signs, return-words, filter-words, close-brace};
+ghost use Rattle.grammar.specs.Words.{names, path-items, literals, return-words, filter-words, close-brace};
 ghost use Rattle.grammar.specs.Grammar.{one-of};
 ghost use Rattle.grammar.specs.Table.{a};
 ghost use Rattle.grammar.specs.Rows.{detail-for};
-ghost use Rattle.grammar.specs.Kinds.{DECLARATION, NAME, TYPED-NAMES, TYPED-NAME, IMPORT, IMPORTED, IMPORTPATH, PATH-ITEM, PATH, TYPE, TYPE-BASE, TYPES, BLOCK, STATEMENT, LET, AFTER-FOUR, LITERAL, PARENS, BRACES, FIELD, FIELD-NAME, EXPRS, FOUR, ELSE-IF, ARM, PATTERN, NAMES, EXPR, OPERAND};
+ghost use Rattle.grammar.specs.Kinds.{DECLARATION, NAME, TYPED-NAMES, TYPED-NAME, IMPORT, IMPORTED, IMPORTPATH, PATH-ITEM, PATH, TYPE, TYPE-BASE, TYPES, BLOCK, STATEMENT, LET, LITERAL, PARENS, BRACES, FIELD, FIELD-NAME, EXPRS, FOUR, ARM, PATTERN, NAMES, EXPR, OPERAND};
 ghost use Rattle.parser.specs.declared.Read.the-variants.{Done};
 ghost use Rattle.parser.specs.Places.{later, nodeOf, plainRow};
 ghost use Rattle.parser.specs.Counted.{counts};
 ghost use Rattle.parser.specs.Going.{Stands, Answers};
-ghost use Rattle.promises.specs.Firsts.{levelOf, exprFirsts, typeFirsts, statementFirsts, declarationFirsts, postfixSigns, endsReturn, closingOf, signKind, detailRow, returnRow, armEnd, childless, undotted, onward, few, single};
-ghost use Rattle.promises.specs.Promises.{the, Anyhow, Partly, itemRow, wrote, Closed, Listed, Typing, Guarded, Grouped, LEVEL, Atom, Behind, AnyBehind, Fielded, Chained, Elsed, Matched, Armed, Bodied, Stated, Statement, Beyond, Finished};
+ghost use Rattle.promises.specs.Firsts.{postfixSigns, closingOf, signWords, detailRow, returnRow, armEnd, childless, undotted, onward, few};
+ghost use Rattle.promises.specs.Promises.{the, Anyhow, Partly, itemRow, wrote, Closed, Listed, Typing, Guarded, Grouped, LEVEL, Atom, Behind, AnyBehind, Fielded, Chained, Tested, Elsed, linked, Last, overRead, overTable, Matched, Armed, Bodied, Stated, Statement, Beyond, Finished};
 use parser::Here;
 use parser::Limits;
 use parser::Node;
@@ -49,6 +50,7 @@ use words::is_literal;
 use words::is_name;
 use words::is_path_item;
 use words::is_postfix;
+use words::is_sign;
 use words::return_detail;
 use words::sign_kind;
 
@@ -85,8 +87,6 @@ const EQUALS: u64 = 50;
 const QUESTION: u64 = 51;
 
 const NOT: u64 = 52;
-
-const MINUS: u64 = 53;
 
 const ELSE: u64 = 63;
 
@@ -130,6 +130,57 @@ fn braced(s: &[u8], table: &mut [u64], here: Here, row: Row) -> Read
         return r;
     };
     finish(table, row, next)
+}
+
+// What a list holds at an index, or 0.
+fn place_in(list: &[usize], i: usize) -> usize
+    ensures { λ r. ⌜ r ≡ getD (now (list .entry)) i 0 ⌝ }
+{
+    if i < list.len() { list[i] } else { 0 }
+}
+
+fn detail_in(list: &[u64], i: usize) -> u64
+    ensures { λ r. ⌜ r ≡ getD (now (list .entry)) i 0 ⌝ }
+{
+    if i < list.len() { list[i] } else { 0 }
+}
+
+// The rows of so many phrases that each end with the next, over what the innermost holds.
+fn around(
+    table: &mut [u64],
+    starts: &[usize],
+    details: &[u64],
+    count: usize,
+    kind: u64,
+    children: u64,
+    inner: Read,
+) -> Read
+    ensures { λ r. ⌜ (r ≡ overRead (now (starts .entry)) (now (details .entry)) kind children count inner) × (now (table .exit) ≡ overTable (now (starts .entry)) (now (details .entry)) kind children count inner (now (table .entry))) ⌝ }
+{
+    let Read::Done(first, next) = inner else {
+        return inner;
+    };
+    let mut found = first;
+    let mut here = next;
+    let mut n = count;
+    while 0 < n {
+        n -= 1;
+        let row = Row {
+            kind,
+            start: place_in(starts, n),
+            end: found.end,
+            children,
+            value: 0,
+            detail: detail_in(details, n),
+        };
+        let r = finish(table, row, here);
+        let Read::Done(over, next) = r else {
+            return r;
+        };
+        found = over;
+        here = next;
+    }
+    Read::Done(found, here)
 }
 
 // A row whose value tells of a part.
@@ -487,14 +538,22 @@ fn typing(s: &[u8], table: &mut [u64], here: Here, limits: Limits, sign: u64) ->
 
 // Expressions and blocks.
 
-// A return form, or binary, or a path, an assignment sign and binary.
+// A return form, or binary, or an assignment.
 fn expr(s: &[u8], table: &mut [u64], here: Here, limits: Limits, records: bool) -> Read
     requires { ⌜ Stands (now s) here ⌝ }
     ensures { λ r. ⌜ Answers (the (now (s .entry)) (counts limits) (EXPR records) here (now (table .entry))) 1 r (now (table .exit)) ⌝ }
 {
     if return_detail(here.word) != 0 {
-        return ret_form(s, table, here, limits, records);
+        return rets(s, table, here, limits, records);
     }
+    assign(s, table, here, limits, records)
+}
+
+// Binary, or a path, an assignment sign and binary.
+fn assign(s: &[u8], table: &mut [u64], here: Here, limits: Limits, records: bool) -> Read
+    requires { ⌜ (Stands (now s) here) × (T (one-of (here .word) return-words) → ⊥) ⌝ }
+    ensures { λ r. ⌜ Answers (the (now (s .entry)) (counts limits) (EXPR records) here (now (table .entry))) 1 r (now (table .exit)) ⌝ }
+{
     if !can_begin_expr(here.word) {
         return unusable(here);
     }
@@ -530,21 +589,52 @@ fn assigned(table: &mut [u64], left: Node, right: Node, word: u64, here: Here) -
     finish(table, row, here)
 }
 
-// `return`, `accept`, `reject`, with an expr exactly when the next token can begin one; where no record may stand, `{`
-// has to follow, which begins one.
-fn ret_form(s: &[u8], table: &mut [u64], here: Here, limits: Limits, records: bool) -> Read
-    requires { ⌜ (Stands (now s) here) × (T (one-of (here .word) return-words)) ⌝ }
-    ensures { λ r. ⌜ Answers (the (now (s .entry)) (counts limits) (EXPR records) here (now (table .entry))) 1 r (now (table .exit)) ⌝ }
+// Any number of `return`, `accept`, `reject`: where one stands behind another, its row is over that one's.
+fn rets(s: &[u8], table: &mut [u64], at: Here, limits: Limits, records: bool) -> Read
+    requires { ⌜ (Stands (now s) at) × (T (one-of (at .word) return-words)) ⌝ }
+    ensures { λ r. ⌜ Answers (the (now (s .entry)) (counts limits) (EXPR records) at (now (table .entry))) 1 r (now (table .exit)) ⌝ }
 {
-    let r = deeper(s, here, limits.signs);
-    let Read::Done(word, next) = r else {
-        return r;
-    };
-    let detail = return_detail(here.word);
-    if ends_return(next.word, records) {
-        return returned(table, word.start, word.end, 0, detail, next);
+    let mut starts: [usize; 32] = [0; 32];
+    let mut details: [u64; 32] = [0; 32];
+    let mut count: usize = 0;
+    let mut here = at;
+    let mut inner = limits;
+    loop {
+        let r = deeper(s, here, inner.signs);
+        let Read::Done(word, next) = r else {
+            return r;
+        };
+        let detail = return_detail(here.word);
+        inner = inner.signed();
+        if return_detail(next.word) == 0 {
+            let r = ret(s, table, next, inner, records, word, detail);
+            return around(table, &starts, &details, count, 27, 1, r);
+        }
+        starts[count] = word.start;
+        details[count] = detail;
+        count += 1;
+        here = next;
     }
-    let r = expr(s, table, next, limits.signed(), records);
+}
+
+// The last of them, from behind its word on: with an expr exactly when the next token can begin one; where no record may
+// stand, `{` has to follow, which begins one.
+fn ret(
+    s: &[u8],
+    table: &mut [u64],
+    here: Here,
+    limits: Limits,
+    records: bool,
+    word: Node,
+    detail: u64,
+) -> Read
+    requires { ⌜ (Stands (now s) here) × (T (one-of (here .word) return-words) → ⊥) ⌝ }
+    ensures { λ r. ⌜ Last (now (s .entry)) here (now (table .entry)) limits records word detail r (now (table .exit)) ⌝ }
+{
+    if ends_return(here.word, records) {
+        return returned(table, word.start, word.end, 0, detail, here);
+    }
+    let r = assign(s, table, here, limits, records);
     let Read::Done(value, next) = r else {
         return r;
     };
@@ -616,7 +706,10 @@ fn tighter(
     ensures { λ r. ⌜ Answers (the (now (s .entry)) (counts limits) (LEVEL (level + 1) records) here (now (table .entry))) 1 r (now (table .exit)) ⌝ }
 {
     if 5 <= level {
-        return negate(s, table, here, limits, records);
+        if is_sign(here.word) {
+            return negate(s, table, here, limits, records);
+        }
+        return access(s, table, here, limits, records);
     }
     binop(s, table, here, limits, records, level + 1)
 }
@@ -635,24 +728,32 @@ fn joined(table: &mut [u64], left: Node, right: Node, word: u64, here: Here) -> 
     finish(table, row, here)
 }
 
-// Any `!` or `-`, then an atom with what follows it.
+// A `!` or `-` and the operand behind it.
 fn negate(s: &[u8], table: &mut [u64], here: Here, limits: Limits, records: bool) -> Read
-    requires { ⌜ Stands (now s) here ⌝ }
+    requires { ⌜ (Stands (now s) here) × (T (one-of (here .word) signWords)) ⌝ }
     ensures { λ r. ⌜ Answers (the (now (s .entry)) (counts limits) (OPERAND records) here (now (table .entry))) 1 r (now (table .exit)) ⌝ }
 {
-    if (here.word != NOT) & (here.word != MINUS) {
-        return access(s, table, here, limits, records);
-    }
     let r = deeper(s, here, limits.signs);
     let Read::Done(sign, next) = r else {
         return r;
     };
-    let r = negate(s, table, next, limits.signed(), records);
+    let r = operand(s, table, next, limits.signed(), records);
     let Read::Done(operand, next) = r else {
         return r;
     };
     let row = plain_row(sign_kind(here.word), sign.start, operand.end, 1);
     finish(table, row, next)
+}
+
+// Any `!` or `-`, then an atom with what follows it.
+fn operand(s: &[u8], table: &mut [u64], here: Here, limits: Limits, records: bool) -> Read
+    requires { ⌜ Stands (now s) here ⌝ }
+    ensures { λ r. ⌜ Answers (the (now (s .entry)) (counts limits) (OPERAND records) here (now (table .entry))) 1 r (now (table .exit)) ⌝ }
+{
+    if is_sign(here.word) {
+        return negate(s, table, here, limits, records);
+    }
+    access(s, table, here, limits, records)
 }
 
 // An atom with any `?`, `( list of exprs )`, `. name`.
@@ -927,67 +1028,79 @@ fn four(s: &[u8], table: &mut [u64], here: Here, limits: Limits) -> Read
     unusable(here)
 }
 
-// `if expr block [else block or if]` from behind its `if` on, which starts at `start`.
+// `if expr block [else block or if]` from behind its `if` on, which starts at `start`; the row of an `if` is over that of
+// the `if` behind its `else`.
 fn if_else(s: &[u8], table: &mut [u64], at: Here, limits: Limits, start: usize) -> Read
     requires { ⌜ (Stands (now s) at) × (limits .signs ≡ 0) ⌝ }
     ensures { λ r. ⌜ Chained (now (s .entry)) at (now (table .entry)) limits start r (now (table .exit)) ⌝ }
+{
+    let mut starts: [usize; 32] = [0; 32];
+    let none: [u64; 0] = [0; 0];
+    let mut count: usize = 0;
+    let mut here = at;
+    let mut inner = limits;
+    let mut begin = start;
+    loop {
+        let r = cond(s, table, here, inner);
+        let Read::Done(body, next) = r else {
+            return r;
+        };
+        if next.word != ELSE {
+            let r = finish(table, plain_row(28, begin, body.end, 2), next);
+            return around(table, &starts, &none, count, 28, 3, r);
+        }
+        let behind = take(s, next);
+        if behind.word != IF {
+            let r = elses(s, table, behind, inner, begin);
+            return around(table, &starts, &none, count, 28, 3, r);
+        }
+        let r = else_if(s, behind, inner);
+        let Read::Done(word, next) = r else {
+            return r;
+        };
+        starts[count] = begin;
+        count += 1;
+        here = next;
+        inner = inner.chained();
+        begin = word.start;
+    }
+}
+
+// `expr block` behind an `if`.
+fn cond(s: &[u8], table: &mut [u64], at: Here, limits: Limits) -> Read
+    requires { ⌜ Stands (now s) at ⌝ }
+    ensures { λ r. ⌜ (Tested (now (s .entry)) at (now (table .entry)) limits r (now (table .exit))) × (Beyond (now (s .entry)) at r) ⌝ }
 {
     let r = expr(s, table, at, limits.headed(), false);
     let Read::Done(_, next) = r else {
         return r;
     };
-    let r = block(s, table, next, limits);
-    let Read::Done(body, next) = r else {
-        return r;
-    };
-    let r = elses(s, table, next, limits, body.end);
-    let Read::Done(rest, next) = r else {
-        return r;
-    };
-    let row = plain_row(28, start, rest.end, rest.children + 2);
-    finish(table, row, next)
+    block(s, table, next, limits)
 }
 
-// Perhaps `else` and a block or `if`: 1 child, or 0 and the end of what stands before.
-fn elses(s: &[u8], table: &mut [u64], here: Here, limits: Limits, end: usize) -> Read
-    requires { ⌜ (Stands (now s) here) × (limits .signs ≡ 0) ⌝ }
-    ensures { λ r. ⌜ (Elsed (now (s .entry)) here (now (table .entry)) limits end r (now (table .exit))) × (single r) ⌝ }
+// The block behind an `else`, and the row of its `if`.
+fn elses(s: &[u8], table: &mut [u64], here: Here, limits: Limits, start: usize) -> Read
+    requires { ⌜ (Stands (now s) here) × (here .word ≢ 69) ⌝ }
+    ensures { λ r. ⌜ Elsed (now (s .entry)) here (now (table .entry)) limits start r (now (table .exit)) ⌝ }
 {
-    if here.word != ELSE {
-        return part(end, end, 0, here);
+    if here.word != OPEN_BRACE {
+        return unusable(here);
     }
-    let after = limits.plain();
-    let next = take(s, here);
-    if next.word == IF {
-        let r = else_if(s, table, next, after);
-        let Read::Done(chain, next) = r else {
-            return r;
-        };
-        return part(chain.start, chain.end, 1, next);
-    }
-    if next.word != OPEN_BRACE {
-        return unusable(next);
-    }
-    let r = block(s, table, next, after);
+    let r = block(s, table, here, limits);
     let Read::Done(body, next) = r else {
         return r;
     };
-    part(body.start, body.end, 1, next)
+    finish(table, plain_row(28, start, body.end, 3), next)
 }
 
 // An `if` behind `else`.
-fn else_if(s: &[u8], table: &mut [u64], here: Here, limits: Limits) -> Read
-    requires { ⌜ (Stands (now s) here) × (here .word ≡ 69) ⌝ }
-    ensures { λ r. ⌜ Answers (the (now (s .entry)) (counts limits) ELSE-IF here (now (table .entry))) 1 r (now (table .exit)) ⌝ }
+fn else_if(s: &[u8], here: Here, limits: Limits) -> Read
+    ensures { λ r. ⌜ r ≡ linked (now (s .entry)) here limits ⌝ }
 {
     if 32 <= limits.chain {
         return refuse(9, here.start, here.end);
     }
-    let r = deeper(s, here, limits.heads);
-    let Read::Done(word, next) = r else {
-        return r;
-    };
-    if_else(s, table, next, limits.chained(), word.start)
+    deeper(s, here, limits.heads)
 }
 
 // `while expr block`
@@ -1069,7 +1182,7 @@ fn arms(s: &[u8], table: &mut [u64], at: Here, limits: Limits, start: usize) -> 
     let mut here = at;
     let mut children: u64 = 1;
     while is_name(here.word) {
-        let r = match_arm(s, table, here, limits);
+        let r = arm(s, table, here, limits);
         let Read::Done(found, next) = r else {
             return r;
         };
@@ -1085,7 +1198,7 @@ fn arms(s: &[u8], table: &mut [u64], at: Here, limits: Limits, start: usize) -> 
 }
 
 // A pattern, perhaps a guard, `=>`, a body, and its comma: 1 if another arm may follow, or 0.
-fn match_arm(s: &[u8], table: &mut [u64], here: Here, limits: Limits) -> Read
+fn arm(s: &[u8], table: &mut [u64], here: Here, limits: Limits) -> Read
     requires { ⌜ (Stands (now s) here) × (limits .signs ≡ 0) × T (one-of (here .word) names) ⌝ }
     ensures { λ r. ⌜ Partly (the (now (s .entry)) (counts limits) ARM here (now (table .entry))) r (now (table .exit)) (λ m h. Armed (the (now (s .entry)) (counts limits) ARM here (now (table .entry))) (m .children) h (now (table .exit))) ⌝ }
 {
@@ -1101,7 +1214,7 @@ fn match_arm(s: &[u8], table: &mut [u64], here: Here, limits: Limits) -> Read
     let Read::Done(_, begin) = r else {
         return r;
     };
-    let r = arm(s, table, begin, limits.plain());
+    let r = body(s, table, begin, limits.plain());
     let Read::Done(body, next) = r else {
         return r;
     };
@@ -1120,7 +1233,7 @@ fn match_arm(s: &[u8], table: &mut [u64], here: Here, limits: Limits) -> Read
 }
 
 // A body that begins with `{` is a block; another is an expr.
-fn arm(s: &[u8], table: &mut [u64], here: Here, limits: Limits) -> Read
+fn body(s: &[u8], table: &mut [u64], here: Here, limits: Limits) -> Read
     requires { ⌜ Stands (now s) here ⌝ }
     ensures { λ r. ⌜ Bodied (now (s .entry)) here (now (table .entry)) limits r (now (table .exit)) ⌝ }
 {

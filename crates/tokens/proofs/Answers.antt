@@ -1,11 +1,9 @@
 -- The answers: of a source as a whole, and where the tokens end.
-use mathlib.Core.Path.{_≡_, refl, sym, ap, _∙_, subst}
-use Prim.Native.Nat.{ℕ, zero, suc, _+_, _-_, _<_, _≤_}
-use mathlib.Core.List.{List, [], _∷_}
-use mathlib.Core.Bool.{Bool, true, false}
-use native.Mathlib.Omega.{arith}
+use mathlib.Core.Path.{_≡_}
+use Prim.Native.Nat.{ℕ, _+_, _-_, _<_, _≤_}
+use mathlib.Core.List.{List}
+use mathlib.Core.Bool.{true, false}
 use lib.ListN.{length}
-use lib.Dec.{eqb}
 use borrow.Author.Tests.{lt-ltb, le-ltb, eq-eqb, ne-eqb}
 use Rattle.chars.specs.declared.Class.the-variants.{Ascii}
 use Rattle.chars.specs.Chars.{isClass}
@@ -17,7 +15,7 @@ use Rattle.tokens.specs.declared.Answer.{Answer}
 use Rattle.tokens.specs.declared.Step.{Step}
 use Rattle.tokens.specs.declared.Step.the-variants.{Taken, Refused}
 use Rattle.tokens.specs.declared.Whole.{Whole}
-use Rattle.tokens.specs.declared.Whole.the-variants.{Fine, Refused as Bad}
+use Rattle.tokens.specs.declared.Whole.the-variants.{Fine}
 use Rattle.tokens.specs.Rules.{pairAt}
 use Rattle.tokens.specs.Tokens.{bad, wholeOf, refusal, counted, lastOf}
 use Rattle.tokens.proofs.Fits.{first, second}

@@ -1,23 +1,23 @@
 -- What is skipped, a run of blanks or a comment at a time.
 use mathlib.Core.Path.{_≡_, refl, sym, ap, _∙_, subst}
 use Prim.Native.Nat.{ℕ, suc, _+_, _-_, _<_, _≤_}
-use mathlib.Core.List.{List, [], _∷_}
+use mathlib.Core.List.{List, _∷_}
 use mathlib.Core.Bool.{Bool, true, false, _&&_}
 use native.Mathlib.Nat.{add-zero, add-suc, suc-add}
 use native.Mathlib.Numerals.{add-one}
 use native.Mathlib.Decide.{decLt}
 use native.Mathlib.Omega.{arith}
-use lib.ListN.{length, getD, drop, drop-of-length-le}
+use lib.ListN.{length, drop, drop-of-length-le}
 use lib.Seq.{drop-cons}
 use lib.Dec.{eqb, ltb}
 use borrow.Author.Tests.{lt-ltb, le-ltb}
 use Rattle.chars.specs.declared.Class.the-variants.{Blank, Line}
 use Rattle.chars.specs.Chars.{pick, byteAt, isBlank, isClass}
 use Rattle.chars.specs.Runs.{pastRun}
-use Rattle.chars.proofs.Runs.{byte-in, byte-out, byte-drop, within, inside, outside, past-ge, past-le, past-more, past-stops, through}
+use Rattle.chars.proofs.Runs.{byte-in, byte-drop, within, inside, outside, past-ge, past-more, past-stops, through}
 use Rattle.tokens.specs.Blanks.{skipped, skipAll, pastComment}
 use Rattle.tokens.specs.Rules.{pairAt}
-use Rattle.tokens.proofs.Pairs.{pair-first, pair-second}
+use Rattle.tokens.proofs.Pairs.{pair-first}
 
 -- past what is skipped from a place inside a comment
 skipIn : List ℕ → ℕ → ℕ

@@ -1,8 +1,7 @@
 -- The list of all tokens, token by token; and the loop that counts them.
 use mathlib.Core.Path.{_≡_, refl, sym, ap, _∙_, subst}
 use Prim.Native.Nat.{ℕ, zero, suc, _+_, _-_, _<_, _≤_}
-use mathlib.Core.List.{List, [], _∷_}
-use mathlib.Core.Bool.{Bool, true, false}
+use mathlib.Core.List.{List, []}
 use native.Mathlib.Nat.{add-zero}
 use native.Mathlib.Omega.{arith}
 use lib.ListN.{length}
@@ -14,8 +13,8 @@ use Rattle.tokens.specs.declared.Step.{Step}
 use Rattle.tokens.specs.declared.Step.the-variants.{Taken, Refused}
 use Rattle.tokens.specs.declared.Whole.{Whole}
 use Rattle.tokens.specs.declared.Whole.the-variants.{Fine, Refused as Bad}
-use Rattle.tokens.specs.Tokens.{stepAt, wholeOf, Listed, more, listFrom, listOf, refusal, counted, ended, lastOf, unless, answerOf}
-use Rattle.tokens.proofs.Steps.{GoodStep, step-good, taken-good}
+use Rattle.tokens.specs.Tokens.{stepAt, wholeOf, Listed, more, listFrom, listOf, refusal, lastOf, answerOf}
+use Rattle.tokens.proofs.Steps.{taken-good}
 
 module _ (n : ℕ) (s : List ℕ) (at : ℕ) where
   pub list-taken : {t : Token} {w : ℕ} {next : Cursor} → stepAt s at ≡ Taken t w next → listFrom (suc n) s at ≡ more t (listFrom n s (next .at))

@@ -1,8 +1,8 @@
 -- The word of a name, from its text.
-use mathlib.Core.Path.{_≡_, refl, sym, ap, _∙_, subst}
-use Prim.Native.Nat.{ℕ, suc, _+_, _-_, _<_, _≤_}
+use mathlib.Core.Path.{_≡_, refl, sym, ap, _∙_}
+use Prim.Native.Nat.{ℕ, _+_, _-_, _<_, _≤_}
 use mathlib.Core.List.{List, [], _∷_}
-use mathlib.Core.Bool.{Bool, true, false, _&&_, _||_}
+use mathlib.Core.Bool.{Bool, true, false, _||_}
 use native.Mathlib.Omega.{arith}
 use lib.ListN.{length}
 use lib.Seq.{slice, slice-empty}
@@ -14,7 +14,7 @@ use Rattle.chars.specs.Texts.{same}
 use Rattle.chars.specs.Runs.{pastRun}
 use Rattle.chars.proofs.Runs.{within, outside, past-gt, past-le}
 use Rattle.tokens.specs.declared.Fit.the-variants.{To}
-use Rattle.tokens.specs.Words.{nameWord, wordIn, keywords, keyIn, keywordKeys, lettersOf}
+use Rattle.tokens.specs.Words.{nameWord, keyIn, keywordKeys, lettersOf}
 use Rattle.tokens.specs.Rules.{isNameStart, nameAt}
 use Rattle.tokens.proofs.Fits.{fits, second, not-first, not-second}
 use Rattle.tokens.proofs.Words.{keyword-by-key}

@@ -1,26 +1,24 @@
 -- What each rule answers, from the places that were reached and the bytes that stand there.
-use mathlib.Core.Path.{_≡_, refl, sym, ap, ap₂, _∙_, subst}
-use Prim.Native.Nat.{ℕ, suc, _+_, _-_, _*_, _^_, _<_, _≤_}
-use mathlib.Core.List.{List, [], _∷_}
+use mathlib.Core.Path.{_≡_, refl, sym, ap, ap₂, _∙_}
+use Prim.Native.Nat.{ℕ, _+_, _-_, _<_, _≤_}
+use mathlib.Core.List.{List}
 use mathlib.Core.Bool.{Bool, true, false, _&&_, _||_, not}
 use native.Mathlib.Decide.{decLt}
 use native.Mathlib.Omega.{arith}
 use lib.ListN.{length, getD}
-use lib.Seq.{slice}
-use lib.Dec.{eqb, ltb, leb}
-use borrow.Author.Tests.{lt-ltb, le-ltb, eq-eqb, ne-eqb, eqb-true}
+use lib.Dec.{eqb}
+use borrow.Author.Tests.{lt-ltb, le-ltb, ne-eqb, eqb-true}
 use Rattle.chars.specs.declared.Class.the-variants.{Line, Digit, Figure, HexDigit, HexColon, NamePart}
-use Rattle.chars.specs.Chars.{pick, byteAt, isClass, isDigit}
+use Rattle.chars.specs.Chars.{byteAt, isClass, isDigit}
 use Rattle.chars.specs.Texts.{same}
 use Rattle.chars.specs.Runs.{pastSpan, pastRun}
 use Rattle.chars.proofs.Runs.{byte-in, byte-out, inside, within, span-more, span-done}
-use Rattle.tokens.specs.declared.Fit.{Fit}
 use Rattle.tokens.specs.declared.Fit.the-variants.{To, No}
 use Rattle.tokens.specs.Words.{twoSign, twoSigns, oneSign, oneSigns, wordIn, codeOf}
 use Rattle.tokens.specs.Blanks.{pastComment}
-use Rattle.tokens.specs.Rules.{whenFit, signFit, ipv6At, periodAt, fractionAt, numberAt, twoAt, goesOn, escapes, quoteAt}
+use Rattle.tokens.specs.Rules.{ipv6At, periodAt, fractionAt, numberAt, twoAt, goesOn, escapes, quoteAt}
 use Rattle.tokens.proofs.Pairs.{fst}
-use Rattle.tokens.proofs.Fits.{so, both, not-first, not-second, fails-second, byte-is, byte-isn't, fits, fails, no-sign, first, second}
+use Rattle.tokens.proofs.Fits.{both, not-first, not-second, fails-second, byte-is, byte-isn't, fits, fails, no-sign, first, second}
 
 one-none : oneSign 256 ≡ 0
 unfolding oneSign oneSigns wordIn same

@@ -1,16 +1,16 @@
 -- The step, from where what is skipped ends; and where a step is taken it goes on, inside the source.
-use mathlib.Core.Path.{_≡_, refl, sym, ap, _∙_, subst}
-use Prim.Native.Nat.{ℕ, zero, suc, _+_, _-_, _<_, _≤_, zero-le, suc-le-suc}
-use mathlib.Core.List.{List, [], _∷_}
-use mathlib.Core.Bool.{Bool, true, false, _&&_, _||_, not}
+use mathlib.Core.Path.{_≡_, refl, ap, _∙_, subst}
+use Prim.Native.Nat.{ℕ, _+_, _-_, _<_, _≤_}
+use mathlib.Core.List.{List}
+use mathlib.Core.Bool.{Bool, true, false, _&&_, _||_}
 use native.Mathlib.Decide.{decLt}
 use native.Mathlib.Omega.{arith}
-use lib.ListN.{length, drop, length-drop}
+use lib.ListN.{length}
 use lib.Seq.{slice}
 use lib.Dec.{eqb, ltb}
-use borrow.Author.Tests.{lt-ltb, le-ltb, ltb-true, ltb-false, eqb-true, eqb-false, not-true}
-use Rattle.chars.specs.declared.Class.the-variants.{Digit, Figure, HexDigit, HexColon, NamePart, Line}
-use Rattle.chars.specs.Chars.{pick, byteAt, isClass, isDigit, isBlank}
+use borrow.Author.Tests.{lt-ltb, le-ltb, ltb-true, eqb-true, eqb-false, not-true}
+use Rattle.chars.specs.declared.Class.the-variants.{Digit, Figure, HexDigit, HexColon, NamePart}
+use Rattle.chars.specs.Chars.{pick, byteAt, isClass, isDigit}
 use Rattle.chars.specs.Texts.{same}
 use Rattle.chars.specs.Runs.{pastSpan, pastRun}
 use Rattle.chars.proofs.Runs.{byte-out, inside, within, outside, span-ge, past-ge, past-le, past-gt}
@@ -20,8 +20,8 @@ use Rattle.tokens.specs.declared.Token.{Token}
 use Rattle.tokens.specs.declared.Cursor.{Cursor}
 use Rattle.tokens.specs.declared.Step.{Step}
 use Rattle.tokens.specs.declared.Step.the-variants.{Taken, Refused}
-use Rattle.tokens.specs.Words.{twoSign, twoSigns, oneSign, wordIn, nameWord}
-use Rattle.tokens.specs.Blanks.{skipped, skipAll}
+use Rattle.tokens.specs.Words.{twoSign, twoSigns, wordIn, nameWord}
+use Rattle.tokens.specs.Blanks.{skipAll}
 use Rattle.tokens.specs.Rules.{whenFit, signFit, thenFit, orElse, taken, refused, pairAt, ipv6At, periodAt, ipv4At, twoAt, oneAt, asAt, hexAt, fractionAt, numberAt, goesOn, escapes, quoteAt, isNameStart, nameAt, tokenAt}
 use Rattle.tokens.specs.Tokens.{stepAt}
 use Rattle.tokens.proofs.Fits.{first, second}

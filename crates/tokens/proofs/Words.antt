@@ -1,13 +1,12 @@
 -- A word's text by a number that stands for it: the choice among numbers is the choice among texts.
 use mathlib.Core.Path.{_≡_, refl, sym, ap, ap₂, _∙_, subst}
-use Prim.Native.Nat.{ℕ, zero, suc, _+_, _-_, _*_, _^_, _<_, _≤_}
+use Prim.Native.Nat.{ℕ, _+_, _-_, _*_, _<_, _≤_}
 use mathlib.Core.List.{List, [], _∷_}
 use mathlib.Core.Bool.{Bool, true, false, _&&_, _||_, not, true≢false}
 use native.Mathlib.Omega.{arith}
 use lib.ListN.{length}
 use lib.Dec.{eqb, leb, ltb}
 use borrow.Author.Tests.{eq-eqb, ne-eqb, eqb-true, eqb-false, leb-true, ltb-true, not-true}
-use Rattle.chars.specs.Chars.{pick}
 use Rattle.chars.specs.Texts.{same}
 use Rattle.tokens.specs.Words.{Entry, wordIn, twoSigns, oneSigns, keywords, twoSign, oneSign, Key, keyIn, keysBy, keywordKeys, pack, lower, lettersOf}
 use Rattle.tokens.proofs.Pairs.{fst, snd}

@@ -1,11 +1,10 @@
 -- The next token at a place, the whole list, and the answer to a source.
 use Prim.Native.Nat.{ℕ, zero, suc, _+_}
 use mathlib.Core.List.{List, [], _∷_}
-use mathlib.Core.Bool.{Bool, true, false, _&&_}
 use lib.ListN.{length}
 use lib.Dec.{eqb, ltb, leb}
 use Rattle.chars.specs.declared.Class.the-variants.{Ascii}
-use Rattle.chars.specs.Chars.{pick, byteAt, isClass}
+use Rattle.chars.specs.Chars.{pick, isClass}
 use Rattle.chars.specs.Runs.{pastRun}
 use Rattle.tokens.specs.declared.Token.{Token}
 use Rattle.tokens.specs.declared.Refusal.{Refusal}

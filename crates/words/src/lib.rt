@@ -3,7 +3,7 @@ ghost use mathlib.Core.Path.{_≡_};
 ghost use Rattle.grammar.specs.Words.{names, path-items, literals, four-words, assign-signs, compare-signs, sum-signs, product-signs};
 ghost use Rattle.grammar.specs.Grammar.{one-of};
 ghost use Rattle.grammar.specs.Rows.{detail-for};
-ghost use Rattle.promises.specs.Firsts.{levelOf, exprFirsts, typeFirsts, statementFirsts, declarationFirsts, postfixSigns, endsReturn, closingOf, signKind};
+ghost use Rattle.promises.specs.Firsts.{levelOf, exprFirsts, typeFirsts, statementFirsts, declarationFirsts, postfixSigns, endsReturn, closingOf, signWords, signKind};
 
 pub fn is_name(word: u64) -> bool
     ensures { λ r. ⌜ r ≡ one-of word names ⌝ }
@@ -185,6 +185,13 @@ pub fn closing_of(bracket: u64) -> u64
     ensures { λ r. ⌜ r ≡ closingOf bracket ⌝ }
 {
     if bracket == 42 { 43 } else { 41 }
+}
+
+// `!` or `-`.
+pub fn is_sign(word: u64) -> bool
+    ensures { λ r. ⌜ r ≡ one-of word signWords ⌝ }
+{
+    (word == 52) | (word == 53)
 }
 
 pub fn sign_kind(word: u64) -> u64

@@ -9,7 +9,6 @@ use Rattle.addresses.proofs.gap_at.Statement.{statement}
 use Rattle.addresses.proofs.gap_at.Tie as tie
 use Rattle.addresses.proofs.gap_at.Reads as reads
 use Rattle.addresses.proofs.gap_at.Lts as lts
-use Rattle.chars.proofs.byte_at.Reads as byte-at-reads
 
 abbrev Inv-loop : tie.InvT-loop
 Inv-loop t i₀ i = (i + gap (drop i t) ≡ gap t) × (i ≤ length t)

@@ -4,9 +4,6 @@ use Rattle.addresses.proofs.group.Statement.{statement}
 use Rattle.addresses.proofs.group.Tie as tie
 use Rattle.addresses.proofs.group.Reads as reads
 use Rattle.addresses.proofs.group.Lts as lts
-use Rattle.addresses.proofs.short.Reads as short-reads
-use Rattle.chars.proofs.byte_at.Reads as byte-at-reads
-use Rattle.numbers.proofs.number_of.Reads as number-of-reads
 
 enum-told : tie.Need-enum-told
 enum-told c = search needs

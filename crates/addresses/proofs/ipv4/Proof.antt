@@ -4,7 +4,6 @@ use Rattle.addresses.proofs.ipv4.Statement.{statement}
 use Rattle.addresses.proofs.ipv4.Tie as tie
 use Rattle.addresses.proofs.ipv4.Reads as reads
 use Rattle.addresses.proofs.ipv4.Lts as lts
-use Rattle.addresses.proofs.joined.Reads as joined-reads
 
 joined-requires : tie.Need-joined-requires
 joined-requires c κs = search needs

@@ -4,10 +4,6 @@ use Rattle.addresses.proofs.ipv6.Statement.{statement}
 use Rattle.addresses.proofs.ipv6.Tie as tie
 use Rattle.addresses.proofs.ipv6.Reads as reads
 use Rattle.addresses.proofs.ipv6.Lts as lts
-use Rattle.addresses.proofs.eight.Reads as eight-reads
-use Rattle.addresses.proofs.gap_at.Reads as gap-at-reads
-use Rattle.addresses.proofs.joined.Reads as joined-reads
-use Rattle.addresses.proofs.shortened.Reads as shortened-reads
 
 gap-at-requires : tie.Need-gap-at-requires
 gap-at-requires c κs = search needs

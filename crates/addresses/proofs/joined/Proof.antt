@@ -8,10 +8,6 @@ use Rattle.addresses.proofs.joined.Statement.{statement}
 use Rattle.addresses.proofs.joined.Tie as tie
 use Rattle.addresses.proofs.joined.Reads as reads
 use Rattle.addresses.proofs.joined.Lts as lts
-use Rattle.addresses.proofs.group.Reads as group-reads
-use Rattle.addresses.proofs.push.Reads as push-reads
-use Rattle.addresses.proofs.separator.Reads as separator-reads
-use Rattle.numbers.proofs.until.Reads as until-reads
 
 abbrev Inv-loop : tie.InvT-loop
 Inv-loop t form count at₀ n₀ w₀ at n w = (still form t at n w ≡ still form t 0 count w₀) × (at ≤ length t)

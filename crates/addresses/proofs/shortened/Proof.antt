@@ -14,8 +14,6 @@ use Rattle.addresses.proofs.shortened.Statement.{statement}
 use Rattle.addresses.proofs.shortened.Tie as tie
 use Rattle.addresses.proofs.shortened.Reads as reads
 use Rattle.addresses.proofs.shortened.Lts as lts
-use Rattle.addresses.proofs.side.Reads as side-reads
-use Rattle.addresses.proofs.zeros.Reads as zeros-reads
 
 slice-aggregate-side : tie.Need-slice-aggregate-side
 slice-aggregate-side c = sym (length-take-le (c .before .before .args .at) (c .before .before .args .t .now) (omega arith))

@@ -4,7 +4,6 @@ use Rattle.addresses.proofs.side.Statement.{statement}
 use Rattle.addresses.proofs.side.Tie as tie
 use Rattle.addresses.proofs.side.Reads as reads
 use Rattle.addresses.proofs.side.Lts as lts
-use Rattle.addresses.proofs.joined.Reads as joined-reads
 
 returns : tie.Need-returns
 returns c = side-empty _ _ (c .before .before .args .t .now) (c .if1 .taken) (c .before .before .pre)

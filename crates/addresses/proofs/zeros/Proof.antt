@@ -9,7 +9,6 @@ use Rattle.addresses.proofs.zeros.Statement.{statement}
 use Rattle.addresses.proofs.zeros.Tie as tie
 use Rattle.addresses.proofs.zeros.Reads as reads
 use Rattle.addresses.proofs.zeros.Lts as lts
-use Rattle.addresses.proofs.push.Reads as push-reads
 
 abbrev Inv-loop : tie.InvT-loop
 Inv-loop count w₀ n₀ w n = pushAll Form.Hexed w (replicate n 0) ≡ pushAll Form.Hexed w₀ (replicate count 0)

@@ -6,7 +6,6 @@ use Rattle.batch.proofs.answer_all.Statement.{statement}
 use Rattle.batch.proofs.answer_all.Tie as tie
 use Rattle.batch.proofs.answer_all.Reads as reads
 use Rattle.batch.proofs.answer_all.Lts as lts
-use Rattle.batch.proofs.case.Reads as case-reads
 
 abbrev Inv-loop : tie.InvT-loop
 Inv-loop buffer₀ table₀ i₀ buffer table i = (length buffer ≡ length buffer₀) × (length table ≡ length table₀)

@@ -5,11 +5,6 @@ use Rattle.batch.proofs.case.Statement.{statement}
 use Rattle.batch.proofs.case.Tie as tie
 use Rattle.batch.proofs.case.Reads as reads
 use Rattle.batch.proofs.case.Lts as lts
-use Rattle.batch.proofs.answer.Reads as answer-reads
-use Rattle.batch.proofs.figure.Reads as figure-reads
-use Rattle.batch.proofs.next_byte.Reads as next-byte-reads
-use Rattle.io.proofs.read_full.Reads as read-full-reads
-use Rattle.io.proofs.write_all.Reads as write-all-reads
 
 next-byte-requires : tie.Need-next-byte-requires
 next-byte-requires c κs = search needs

@@ -5,7 +5,6 @@ use Rattle.batch.proofs.expression.Statement.{statement}
 use Rattle.batch.proofs.expression.Tie as tie
 use Rattle.batch.proofs.expression.Reads as reads
 use Rattle.batch.proofs.expression.Lts as lts
-use Rattle.print.proofs.answer_expression.Reads as answer-expression-reads
 
 mul-answer-expression : tie.Need-mul-answer-expression
 mul-answer-expression c = search needs

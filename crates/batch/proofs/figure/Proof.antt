@@ -4,8 +4,6 @@ use Rattle.batch.proofs.figure.Statement.{statement}
 use Rattle.batch.proofs.figure.Tie as tie
 use Rattle.batch.proofs.figure.Reads as reads
 use Rattle.batch.proofs.figure.Lts as lts
-use Rattle.batch.proofs.next_byte.Reads as next-byte-reads
-use Rattle.batch.proofs.wide.Reads as wide-reads
 
 abbrev Inv-loop : tie.InvT-loop
 Inv-loop value₀ digits₀ value digits = Unit {0}

@@ -5,7 +5,6 @@ use Rattle.batch.proofs.tree.Statement.{statement}
 use Rattle.batch.proofs.tree.Tie as tie
 use Rattle.batch.proofs.tree.Reads as reads
 use Rattle.batch.proofs.tree.Lts as lts
-use Rattle.print.proofs.answer_tree.Reads as answer-tree-reads
 
 mul-answer-tree : tie.Need-mul-answer-tree
 mul-answer-tree c = search needs

@@ -8,10 +8,6 @@ use Rattle.chars.proofs.is_class.Statement.{statement}
 use Rattle.chars.proofs.is_class.Tie as tie
 use Rattle.chars.proofs.is_class.Reads as reads
 use Rattle.chars.proofs.is_class.Lts as lts
-use Rattle.chars.proofs.is_blank.Reads as is-blank-reads
-use Rattle.chars.proofs.is_digit.Reads as is-digit-reads
-use Rattle.chars.proofs.is_hex_digit.Reads as is-hex-digit-reads
-use Rattle.chars.proofs.is_letter.Reads as is-letter-reads
 
 enum-told : tie.Need-enum-told
 enum-told c = search needs

@@ -9,8 +9,6 @@ use Rattle.chars.proofs.past.Statement.{statement}
 use Rattle.chars.proofs.past.Tie as tie
 use Rattle.chars.proofs.past.Reads as reads
 use Rattle.chars.proofs.past.Lts as lts
-use Rattle.chars.proofs.byte_at.Reads as byte-at-reads
-use Rattle.chars.proofs.is_class.Reads as is-class-reads
 
 abbrev Inv-loop : tie.InvT-loop
 Inv-loop s at k i₀ i = pastRun (isClass k) s i ≡ pastRun (isClass k) s at

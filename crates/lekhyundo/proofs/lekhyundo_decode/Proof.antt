@@ -6,8 +6,6 @@ use Rattle.lekhyundo.proofs.lekhyundo_decode.Statement.{statement}
 use Rattle.lekhyundo.proofs.lekhyundo_decode.Tie as tie
 use Rattle.lekhyundo.proofs.lekhyundo_decode.Reads as reads
 use Rattle.lekhyundo.proofs.lekhyundo_decode.Lts as lts
-use Rattle.lekhyundo.proofs.put.Reads as put-reads
-use Rattle.strings.proofs.decode.Reads as decode-reads
 
 decode-requires : tie.Need-decode-requires
 decode-requires c κs = search needs

@@ -6,8 +6,6 @@ use Rattle.lekhyundo.proofs.lekhyundo_literal.Statement.{statement}
 use Rattle.lekhyundo.proofs.lekhyundo_literal.Tie as tie
 use Rattle.lekhyundo.proofs.lekhyundo_literal.Reads as reads
 use Rattle.lekhyundo.proofs.lekhyundo_literal.Lts as lts
-use Rattle.lekhyundo.proofs.put.Reads as put-reads
-use Rattle.values.proofs.literal_at.Reads as literal-at-reads
 
 literal-at-requires : tie.Need-literal-at-requires
 literal-at-requires c κs = search needs

@@ -5,7 +5,6 @@ use Rattle.lekhyundo.proofs.lekhyundo_name.Statement.{statement}
 use Rattle.lekhyundo.proofs.lekhyundo_name.Tie as tie
 use Rattle.lekhyundo.proofs.lekhyundo_name.Reads as reads
 use Rattle.lekhyundo.proofs.lekhyundo_name.Lts as lts
-use Rattle.entry.proofs.name_text.Reads as name-text-reads
 
 -- src/lib.rt:132:9
 name-text-requires : tie.Need-name-text-requires

@@ -1,17 +1,12 @@
-use mathlib.Core.Path.{_≡_, refl, ap, _∙_}
-use lib.ListN.{set}
-use lib.Seq.{sets}
-use Rattle.lekhyundo.specs.Numbers.{answerNumbers, stepNumbers}
-use Rattle.tokens.specs.Tokens.{stepAt, answerOf}
-use Rattle.lekhyundo.proofs.Stores.{stored4, stored5}
+use mathlib.Core.Path.{ap, _∙_}
+use Rattle.lekhyundo.specs.Numbers.{stepNumbers}
+use Rattle.lekhyundo.proofs.Stores.{stored5}
 use mathlib.Core.Path.{sym}
 use borrow.Author.Needs.{needs}
 use Rattle.lekhyundo.proofs.lekhyundo_step.Statement.{statement}
 use Rattle.lekhyundo.proofs.lekhyundo_step.Tie as tie
 use Rattle.lekhyundo.proofs.lekhyundo_step.Reads as reads
 use Rattle.lekhyundo.proofs.lekhyundo_step.Lts as lts
-use Rattle.lekhyundo.proofs.put.Reads as put-reads
-use Rattle.tokens.proofs.Cursor.step.Reads as step-reads
 
 step-requires : tie.Need-step-requires
 step-requires c κs = search needs

@@ -2,7 +2,6 @@ use Rattle.list.specs.States.{begunBy, begun}
 use borrow.Author.Needs.{needs}
 use Rattle.list.proofs.begin.Statement.{statement}
 use Rattle.list.proofs.begin.Tie as tie
-use Rattle.tokens.proofs.check_source.Reads as check-source-reads
 
 check-source-requires : tie.Need-check-source-requires
 check-source-requires c κs = search needs

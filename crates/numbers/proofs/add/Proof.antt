@@ -7,7 +7,6 @@ use Rattle.numbers.proofs.add.Statement.{statement}
 use Rattle.numbers.proofs.add.Tie as tie
 use Rattle.numbers.proofs.add.Reads as reads
 use Rattle.numbers.proofs.add.Lts as lts
-use Rattle.numbers.proofs.radix.Reads as radix-reads
 
 radix-requires : tie.Need-radix-requires
 radix-requires c κs = search needs

@@ -6,9 +6,6 @@ use Rattle.numbers.proofs.float.Statement.{statement}
 use Rattle.numbers.proofs.float.Tie as tie
 use Rattle.numbers.proofs.float.Reads as reads
 use Rattle.numbers.proofs.float.Lts as lts
-use Rattle.chars.proofs.byte_at.Reads as byte-at-reads
-use Rattle.chars.proofs.past.Reads as past-reads
-use Rattle.numbers.proofs.suffix.Reads as suffix-reads
 
 past-requires : tie.Need-past-requires
 past-requires c κs = search needs

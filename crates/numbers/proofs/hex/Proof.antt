@@ -8,8 +8,6 @@ use Rattle.numbers.proofs.hex.Statement.{statement}
 use Rattle.numbers.proofs.hex.Tie as tie
 use Rattle.numbers.proofs.hex.Reads as reads
 use Rattle.numbers.proofs.hex.Lts as lts
-use Rattle.chars.proofs.byte_at.Reads as byte-at-reads
-use Rattle.numbers.proofs.number_of.Reads as number-of-reads
 
 byte-at-requires : tie.Need-byte-at-requires
 byte-at-requires c κs = search needs

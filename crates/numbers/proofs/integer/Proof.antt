@@ -6,11 +6,6 @@ use Rattle.numbers.proofs.integer.Statement.{statement}
 use Rattle.numbers.proofs.integer.Tie as tie
 use Rattle.numbers.proofs.integer.Reads as reads
 use Rattle.numbers.proofs.integer.Lts as lts
-use Rattle.chars.proofs.byte_at.Reads as byte-at-reads
-use Rattle.chars.proofs.is_digit.Reads as is-digit-reads
-use Rattle.chars.proofs.past.Reads as past-reads
-use Rattle.numbers.proofs.number_of.Reads as number-of-reads
-use Rattle.numbers.proofs.suffix.Reads as suffix-reads
 
 byte-at-requires : tie.Need-byte-at-requires
 byte-at-requires c κs = search needs

@@ -11,9 +11,6 @@ use Rattle.numbers.proofs.number_of.Statement.{statement}
 use Rattle.numbers.proofs.number_of.Tie as tie
 use Rattle.numbers.proofs.number_of.Reads as reads
 use Rattle.numbers.proofs.number_of.Lts as lts
-use Rattle.chars.proofs.byte_at.Reads as byte-at-reads
-use Rattle.numbers.proofs.add.Reads as add-reads
-use Rattle.numbers.proofs.digit.Reads as digit-reads
 
 abbrev Inv-loop : tie.InvT-loop
 Inv-loop t base limit gaps value₀ digits₀ i₀ value digits i = (numberFrom (radixOf base) limit value digits (left gaps t i) ≡ numberOf base limit (plain gaps t)) × (value ≤ limit) × (digits ≤ i)

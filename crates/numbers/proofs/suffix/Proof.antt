@@ -8,7 +8,6 @@ use Rattle.numbers.proofs.suffix.Statement.{statement}
 use Rattle.numbers.proofs.suffix.Tie as tie
 use Rattle.numbers.proofs.suffix.Reads as reads
 use Rattle.numbers.proofs.suffix.Lts as lts
-use Rattle.numbers.proofs.same.Reads as same-reads
 
 slice-aggregate-same : tie.Need-slice-aggregate-same
 slice-aggregate-same c = search needs

@@ -8,7 +8,6 @@ use Rattle.numbers.proofs.until.Statement.{statement}
 use Rattle.numbers.proofs.until.Tie as tie
 use Rattle.numbers.proofs.until.Reads as reads
 use Rattle.numbers.proofs.until.Lts as lts
-use Rattle.chars.proofs.byte_at.Reads as byte-at-reads
 
 abbrev Inv-loop : tie.InvT-loop
 Inv-loop t at stop i₀ i = untilByte stop t i ≡ untilByte stop t at

@@ -7,8 +7,6 @@ use Rattle.parser.proofs.close.Statement.{statement}
 use Rattle.parser.proofs.close.Tie as tie
 use Rattle.parser.proofs.close.Reads as reads
 use Rattle.parser.proofs.close.Lts as lts
-use Rattle.parser.proofs.take.Reads as take-reads
-use Rattle.parser.proofs.unusable.Reads as unusable-reads
 
 unusable-requires : tie.Need-unusable-requires
 unusable-requires c κs = search needs

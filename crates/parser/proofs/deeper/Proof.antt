@@ -4,8 +4,6 @@ use Rattle.parser.proofs.deeper.Statement.{statement}
 use Rattle.parser.proofs.deeper.Tie as tie
 use Rattle.parser.proofs.deeper.Reads as reads
 use Rattle.parser.proofs.deeper.Lts as lts
-use Rattle.parser.proofs.past.Reads as past-reads
-use Rattle.parser.proofs.refuse.Reads as refuse-reads
 
 refuse-requires : tie.Need-refuse-requires
 refuse-requires c κs = search needs

@@ -4,8 +4,6 @@ use Rattle.parser.proofs.expect.Statement.{statement}
 use Rattle.parser.proofs.expect.Tie as tie
 use Rattle.parser.proofs.expect.Reads as reads
 use Rattle.parser.proofs.expect.Lts as lts
-use Rattle.parser.proofs.past.Reads as past-reads
-use Rattle.parser.proofs.unusable.Reads as unusable-reads
 
 unusable-requires : tie.Need-unusable-requires
 unusable-requires c κs = search needs

@@ -6,8 +6,6 @@ use Rattle.parser.proofs.finish.Statement.{statement}
 use Rattle.parser.proofs.finish.Tie as tie
 use Rattle.parser.proofs.finish.Reads as reads
 use Rattle.parser.proofs.finish.Lts as lts
-use Rattle.parser.proofs.row_more.Reads as row-more-reads
-use Rattle.rows.proofs.put.Reads as put-reads
 
 put-requires : tie.Need-put-requires
 put-requires c κs = search needs

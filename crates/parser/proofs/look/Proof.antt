@@ -5,8 +5,6 @@ use Rattle.parser.proofs.look.Statement.{statement}
 use Rattle.parser.proofs.look.Tie as tie
 use Rattle.parser.proofs.look.Reads as reads
 use Rattle.parser.proofs.look.Lts as lts
-use Rattle.parser.proofs.nowhere.Reads as nowhere-reads
-use Rattle.tokens.proofs.Cursor.step.Reads as step-reads
 
 step-requires : tie.Need-step-requires
 step-requires c κs = search needs

@@ -4,8 +4,6 @@ use Rattle.parser.proofs.open.Statement.{statement}
 use Rattle.parser.proofs.open.Tie as tie
 use Rattle.parser.proofs.open.Reads as reads
 use Rattle.parser.proofs.open.Lts as lts
-use Rattle.parser.proofs.deeper.Reads as deeper-reads
-use Rattle.parser.proofs.unusable.Reads as unusable-reads
 
 unusable-requires : tie.Need-unusable-requires
 unusable-requires c κs = search needs

@@ -9,10 +9,10 @@ add-result : tie.Need-add-result
 add-result c = search needs
 
 returns : tie.Need-returns
-returns c = bump-more (c .before .args .n) (c .if1 .taken)
+returns c = bump-more 300000 (c .before .args .n) (c .if1 .taken)
 
 returns-2 : tie.Need-returns-2
-returns-2 c = bump-same (c .before .args .n) (c .if1 .left)
+returns-2 c = bump-same 300000 (c .before .args .n) (c .if1 .left)
 
 pub row-more-spec : {M : Type 1} → statement M
 row-more-spec = tie.close (tie.spec add-result returns returns-2)

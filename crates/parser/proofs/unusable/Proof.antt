@@ -4,7 +4,6 @@ use Rattle.parser.proofs.unusable.Statement.{statement}
 use Rattle.parser.proofs.unusable.Tie as tie
 use Rattle.parser.proofs.unusable.Reads as reads
 use Rattle.parser.proofs.unusable.Lts as lts
-use Rattle.parser.proofs.refuse.Reads as refuse-reads
 
 refuse-requires : tie.Need-refuse-requires
 refuse-requires c κs = search needs

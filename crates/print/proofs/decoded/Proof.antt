@@ -5,9 +5,6 @@ use Rattle.print.proofs.decoded.Statement.{statement}
 use Rattle.print.proofs.decoded.Tie as tie
 use Rattle.print.proofs.decoded.Reads as reads
 use Rattle.print.proofs.decoded.Lts as lts
-use Rattle.print.proofs.head.Reads as head-reads
-use Rattle.print.proofs.hex_line.Reads as hex-line-reads
-use Rattle.strings.proofs.decode.Reads as decode-reads
 
 decode-requires : tie.Need-decode-requires
 decode-requires c κs = search needs

@@ -6,7 +6,6 @@ use Rattle.print.proofs.decoded_within.Statement.{statement}
 use Rattle.print.proofs.decoded_within.Tie as tie
 use Rattle.print.proofs.decoded_within.Reads as reads
 use Rattle.print.proofs.decoded_within.Lts as lts
-use Rattle.print.proofs.decoded.Reads as decoded-reads
 
 slice-relend-prefix-decoded : tie.Need-slice-relend-prefix-decoded
 slice-relend-prefix-decoded c = search needs

@@ -1,13 +1,10 @@
-use Prim.Native.Nat.{_-_, _≤_}
+use Prim.Native.Nat.{_-_}
 use lib.ListN.{length}
 use borrow.Author.Needs.{needs}
 use Rattle.print.proofs.hex_line.Statement.{statement}
 use Rattle.print.proofs.hex_line.Tie as tie
 use Rattle.print.proofs.hex_line.Reads as reads
 use Rattle.print.proofs.hex_line.Lts as lts
-use Rattle.io.proofs.print_hex.Reads as print-hex-reads
-use Rattle.io.proofs.write_all.Reads as write-all-reads
-use Rattle.print.proofs.wide.Reads as wide-reads
 
 abbrev Inv-loop : tie.InvT-loop
 Inv-loop bytes i₀ t3 i = Unit {0}

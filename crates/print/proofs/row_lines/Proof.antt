@@ -5,7 +5,6 @@ use Rattle.print.proofs.row_lines.Statement.{statement}
 use Rattle.print.proofs.row_lines.Tie as tie
 use Rattle.print.proofs.row_lines.Reads as reads
 use Rattle.print.proofs.row_lines.Lts as lts
-use Rattle.print.proofs.row_line.Reads as row-line-reads
 
 abbrev Inv-loop : tie.InvT-loop
 Inv-loop table count i₀ i = Unit {0}

@@ -4,11 +4,6 @@ use Rattle.print.proofs.token_lines.Statement.{statement}
 use Rattle.print.proofs.token_lines.Tie as tie
 use Rattle.print.proofs.token_lines.Reads as reads
 use Rattle.print.proofs.token_lines.Lts as lts
-use Rattle.io.proofs.print_decimal.Reads as print-decimal-reads
-use Rattle.io.proofs.write_all.Reads as write-all-reads
-use Rattle.print.proofs.number.Reads as number-reads
-use Rattle.tokens.proofs.Cursor.new.Reads as new-reads
-use Rattle.tokens.proofs.Cursor.step.Reads as step-reads
 
 abbrev Inv-loop : tie.InvT-loop
 Inv-loop s count cursor₀ i₀ t8 cursor i = Unit {0}

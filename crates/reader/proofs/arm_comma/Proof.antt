@@ -4,8 +4,6 @@ use Rattle.reader.proofs.arm_comma.Statement.{statement}
 use Rattle.reader.proofs.arm_comma.Tie as tie
 use Rattle.reader.proofs.arm_comma.Reads as reads
 use Rattle.reader.proofs.arm_comma.Lts as lts
-use Rattle.parser.proofs.take.Reads as take-reads
-use Rattle.reader.proofs.part.Reads as part-reads
 
 take-requires : tie.Need-take-requires
 take-requires c κs = search needs

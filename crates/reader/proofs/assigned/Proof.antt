@@ -5,8 +5,6 @@ use Rattle.reader.proofs.assigned.Statement.{statement}
 use Rattle.reader.proofs.assigned.Tie as tie
 use Rattle.reader.proofs.assigned.Reads as reads
 use Rattle.reader.proofs.assigned.Lts as lts
-use Rattle.parser.proofs.finish.Reads as finish-reads
-use Rattle.words.proofs.assign_detail.Reads as assign-detail-reads
 
 assign-detail-requires : tie.Need-assign-detail-requires
 assign-detail-requires c κs = search needs

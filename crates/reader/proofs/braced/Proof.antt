@@ -4,8 +4,6 @@ use Rattle.reader.proofs.braced.Statement.{statement}
 use Rattle.reader.proofs.braced.Tie as tie
 use Rattle.reader.proofs.braced.Reads as reads
 use Rattle.reader.proofs.braced.Lts as lts
-use Rattle.parser.proofs.expect.Reads as expect-reads
-use Rattle.parser.proofs.finish.Reads as finish-reads
 
 expect-requires : tie.Need-expect-requires
 expect-requires c κs = search needs

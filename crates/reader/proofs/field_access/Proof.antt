@@ -6,10 +6,6 @@ use Rattle.reader.proofs.field_access.Statement.{statement}
 use Rattle.reader.proofs.field_access.Tie as tie
 use Rattle.reader.proofs.field_access.Reads as reads
 use Rattle.reader.proofs.field_access.Lts as lts
-use Rattle.parser.proofs.finish.Reads as finish-reads
-use Rattle.parser.proofs.plain_row.Reads as plain-row-reads
-use Rattle.parser.proofs.take.Reads as take-reads
-use Rattle.reader.proofs.identifier.Reads as identifier-reads
 
 take-requires : tie.Need-take-requires
 take-requires c κs = search needs

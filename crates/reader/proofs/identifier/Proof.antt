@@ -7,9 +7,6 @@ use Rattle.reader.proofs.identifier.Statement.{statement}
 use Rattle.reader.proofs.identifier.Tie as tie
 use Rattle.reader.proofs.identifier.Reads as reads
 use Rattle.reader.proofs.identifier.Lts as lts
-use Rattle.parser.proofs.unusable.Reads as unusable-reads
-use Rattle.words.proofs.is_name.Reads as is-name-reads
-use Rattle.reader.proofs.item.Reads as item-reads
 
 is-name-requires : tie.Need-is-name-requires
 is-name-requires c κs = search needs

@@ -5,8 +5,6 @@ use Rattle.reader.proofs.joined.Statement.{statement}
 use Rattle.reader.proofs.joined.Tie as tie
 use Rattle.reader.proofs.joined.Reads as reads
 use Rattle.reader.proofs.joined.Lts as lts
-use Rattle.parser.proofs.finish.Reads as finish-reads
-use Rattle.words.proofs.binary_detail.Reads as binary-detail-reads
 
 binary-detail-requires : tie.Need-binary-detail-requires
 binary-detail-requires c κs = search needs

@@ -12,11 +12,6 @@ use Rattle.reader.proofs.names.Statement.{statement}
 use Rattle.reader.proofs.names.Tie as tie
 use Rattle.reader.proofs.names.Reads as reads
 use Rattle.reader.proofs.names.Lts as lts
-use Rattle.parser.proofs.close.Reads as close-reads
-use Rattle.parser.proofs.open.Reads as open-reads
-use Rattle.parser.proofs.take.Reads as take-reads
-use Rattle.reader.proofs.identifier.Reads as identifier-reads
-use Rattle.words.proofs.is_name.Reads as is-name-reads
 
 abbrev Inv-loop : tie.InvT-loop
 Inv-loop s table₀ opening here₀ children₀ table here children = (l : Limits) → Loops names-list s l here₀ table₀ children₀ here table children

@@ -4,9 +4,6 @@ use Rattle.reader.proofs.never_type.Statement.{statement}
 use Rattle.reader.proofs.never_type.Tie as tie
 use Rattle.reader.proofs.never_type.Reads as reads
 use Rattle.reader.proofs.never_type.Lts as lts
-use Rattle.parser.proofs.finish.Reads as finish-reads
-use Rattle.parser.proofs.plain_row.Reads as plain-row-reads
-use Rattle.parser.proofs.take.Reads as take-reads
 
 take-requires : tie.Need-take-requires
 take-requires c κs = search needs

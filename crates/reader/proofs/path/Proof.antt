@@ -14,10 +14,6 @@ use Rattle.reader.proofs.path.Statement.{statement}
 use Rattle.reader.proofs.path.Tie as tie
 use Rattle.reader.proofs.path.Reads as reads
 use Rattle.reader.proofs.path.Lts as lts
-use Rattle.parser.proofs.finish.Reads as finish-reads
-use Rattle.parser.proofs.plain_row.Reads as plain-row-reads
-use Rattle.parser.proofs.take.Reads as take-reads
-use Rattle.reader.proofs.path_item.Reads as path-item-reads
 
 abbrev Inv-loop : tie.InvT-loop
 Inv-loop s table₀ first end₀ here₀ children₀ table end here children = Goes s (first .start) end₀ children₀ here₀ table₀ end children here table

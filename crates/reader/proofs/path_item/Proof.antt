@@ -7,9 +7,6 @@ use Rattle.reader.proofs.path_item.Statement.{statement}
 use Rattle.reader.proofs.path_item.Tie as tie
 use Rattle.reader.proofs.path_item.Reads as reads
 use Rattle.reader.proofs.path_item.Lts as lts
-use Rattle.parser.proofs.unusable.Reads as unusable-reads
-use Rattle.words.proofs.is_path_item.Reads as is-path-item-reads
-use Rattle.reader.proofs.item.Reads as item-reads
 
 is-path-item-requires : tie.Need-is-path-item-requires
 is-path-item-requires c κs = search needs

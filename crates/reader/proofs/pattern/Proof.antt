@@ -8,13 +8,6 @@ use Rattle.reader.proofs.pattern.Statement.{statement}
 use Rattle.reader.proofs.pattern.Tie as tie
 use Rattle.reader.proofs.pattern.Reads as reads
 use Rattle.reader.proofs.pattern.Lts as lts
-use Rattle.parser.proofs.finish.Reads as finish-reads
-use Rattle.parser.proofs.plain_row.Reads as plain-row-reads
-use Rattle.parser.proofs.unusable.Reads as unusable-reads
-use Rattle.reader.proofs.any_pattern.Reads as any-pattern-reads
-use Rattle.reader.proofs.item.Reads as item-reads
-use Rattle.reader.proofs.names.Reads as names-reads
-use Rattle.reader.proofs.valued_row.Reads as valued-row-reads
 
 any-pattern-requires : tie.Need-any-pattern-requires
 any-pattern-requires c κs = search needs

@@ -7,10 +7,6 @@ use Rattle.reader.proofs.typing.Statement.{statement}
 use Rattle.reader.proofs.typing.Tie as tie
 use Rattle.reader.proofs.typing.Reads as reads
 use Rattle.reader.proofs.typing.Lts as lts
-use Rattle.parser.proofs.Limits.plain.Reads as plain-reads
-use Rattle.parser.proofs.take.Reads as take-reads
-use Rattle.reader.proofs.part.Reads as part-reads
-use Rattle.reader.proofs.type_expr.Reads as type-expr-reads
 
 part-requires : tie.Need-part-requires
 part-requires c κs = search needs

@@ -4,10 +4,6 @@ use Rattle.reader.proofs.unit_type.Statement.{statement}
 use Rattle.reader.proofs.unit_type.Tie as tie
 use Rattle.reader.proofs.unit_type.Reads as reads
 use Rattle.reader.proofs.unit_type.Lts as lts
-use Rattle.parser.proofs.expect.Reads as expect-reads
-use Rattle.parser.proofs.finish.Reads as finish-reads
-use Rattle.parser.proofs.open.Reads as open-reads
-use Rattle.parser.proofs.plain_row.Reads as plain-row-reads
 
 open-requires : tie.Need-open-requires
 open-requires c κs = search needs

@@ -5,8 +5,6 @@ use Rattle.strings.proofs.ascii.Statement.{statement}
 use Rattle.strings.proofs.ascii.Tie as tie
 use Rattle.strings.proofs.ascii.Reads as reads
 use Rattle.strings.proofs.ascii.Lts as lts
-use Rattle.chars.proofs.byte_at.Reads as byte-at-reads
-use Rattle.numbers.proofs.digit.Reads as digit-reads
 
 byte-at-requires : tie.Need-byte-at-requires
 byte-at-requires c κs = search needs

@@ -4,8 +4,6 @@ use Rattle.strings.proofs.char_of.Statement.{statement}
 use Rattle.strings.proofs.char_of.Tie as tie
 use Rattle.strings.proofs.char_of.Reads as reads
 use Rattle.strings.proofs.char_of.Lts as lts
-use Rattle.chars.proofs.byte_at.Reads as byte-at-reads
-use Rattle.strings.proofs.piece_of.Reads as piece-of-reads
 
 returns : tie.Need-returns
 returns c = char-short (c .before .before .args .t .now) (c .if1 .taken)

@@ -5,9 +5,6 @@ use Rattle.strings.proofs.decode.Statement.{statement}
 use Rattle.strings.proofs.decode.Tie as tie
 use Rattle.strings.proofs.decode.Reads as reads
 use Rattle.strings.proofs.decode.Lts as lts
-use Rattle.strings.proofs.clear.Reads as clear-reads
-use Rattle.strings.proofs.string.Reads as string-reads
-use Rattle.strings.proofs.write.Reads as write-reads
 
 clear-requires : tie.Need-clear-requires
 clear-requires c κs = search needs

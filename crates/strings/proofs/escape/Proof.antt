@@ -4,10 +4,6 @@ use Rattle.strings.proofs.escape.Statement.{statement}
 use Rattle.strings.proofs.escape.Tie as tie
 use Rattle.strings.proofs.escape.Reads as reads
 use Rattle.strings.proofs.escape.Lts as lts
-use Rattle.chars.proofs.byte_at.Reads as byte-at-reads
-use Rattle.strings.proofs.ascii.Reads as ascii-reads
-use Rattle.strings.proofs.simple.Reads as simple-reads
-use Rattle.strings.proofs.unicode.Reads as unicode-reads
 
 byte-at-requires : tie.Need-byte-at-requires
 byte-at-requires c κs = search needs

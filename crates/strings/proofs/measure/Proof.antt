@@ -9,8 +9,6 @@ use Rattle.strings.proofs.measure.Statement.{statement}
 use Rattle.strings.proofs.measure.Tie as tie
 use Rattle.strings.proofs.measure.Reads as reads
 use Rattle.strings.proofs.measure.Lts as lts
-use Rattle.strings.proofs.piece_of.Reads as piece-of-reads
-use Rattle.strings.proofs.width.Reads as width-reads
 
 abbrev Inv-loop : tie.InvT-loop
 Inv-loop t i₀ n₀ i n = (plus n (measureOf (drop i t)) ≡ measureOf t) × (n ≤ i) × (i ≤ length t)

@@ -4,9 +4,6 @@ use Rattle.strings.proofs.piece_of.Statement.{statement}
 use Rattle.strings.proofs.piece_of.Tie as tie
 use Rattle.strings.proofs.piece_of.Reads as reads
 use Rattle.strings.proofs.piece_of.Lts as lts
-use Rattle.chars.proofs.byte_at.Reads as byte-at-reads
-use Rattle.strings.proofs.bare.Reads as bare-reads
-use Rattle.strings.proofs.escape.Reads as escape-reads
 
 byte-at-requires : tie.Need-byte-at-requires
 byte-at-requires c κs = search needs

@@ -4,8 +4,6 @@ use Rattle.strings.proofs.string.Statement.{statement}
 use Rattle.strings.proofs.string.Tie as tie
 use Rattle.strings.proofs.string.Reads as reads
 use Rattle.strings.proofs.string.Lts as lts
-use Rattle.chars.proofs.byte_at.Reads as byte-at-reads
-use Rattle.strings.proofs.measure.Reads as measure-reads
 
 returns : tie.Need-returns
 returns c = string-short (c .before .before .args .t .now) (c .if1 .taken)

@@ -5,10 +5,6 @@ use Rattle.strings.proofs.unicode.Statement.{statement}
 use Rattle.strings.proofs.unicode.Tie as tie
 use Rattle.strings.proofs.unicode.Reads as reads
 use Rattle.strings.proofs.unicode.Lts as lts
-use Rattle.chars.proofs.byte_at.Reads as byte-at-reads
-use Rattle.numbers.proofs.number_of.Reads as number-of-reads
-use Rattle.numbers.proofs.until.Reads as until-reads
-use Rattle.strings.proofs.scalar.Reads as scalar-reads
 
 byte-at-requires : tie.Need-byte-at-requires
 byte-at-requires c κs = search needs

@@ -1,4 +1,4 @@
-use mathlib.Core.Path.{_≡_, refl}
+use mathlib.Core.Path.{refl}
 use Prim.Native.Nat.{_-_}
 use native.Mathlib.Omega.{arith}
 use borrow.Author.Needs.{needs}
@@ -8,9 +8,6 @@ use Rattle.strings.proofs.write.Statement.{statement}
 use Rattle.strings.proofs.write.Tie as tie
 use Rattle.strings.proofs.write.Reads as reads
 use Rattle.strings.proofs.write.Lts as lts
-use Rattle.strings.proofs.emit.Reads as emit-reads
-use Rattle.strings.proofs.piece_of.Reads as piece-of-reads
-use Rattle.strings.proofs.width.Reads as width-reads
 
 abbrev Inv-loop : tie.InvT-loop
 Inv-loop t out₀ i₀ at₀ out i at = Left t out₀ out i at

@@ -7,7 +7,6 @@ use Rattle.values.proofs.bool_of.Statement.{statement}
 use Rattle.values.proofs.bool_of.Tie as tie
 use Rattle.values.proofs.bool_of.Reads as reads
 use Rattle.values.proofs.bool_of.Lts as lts
-use Rattle.numbers.proofs.same.Reads as same-reads
 
 slice-aggregate-same : tie.Need-slice-aggregate-same
 slice-aggregate-same c = search needs

@@ -4,7 +4,6 @@ use Rattle.values.proofs.literal_at.Statement.{statement}
 use Rattle.values.proofs.literal_at.Tie as tie
 use Rattle.values.proofs.literal_at.Reads as reads
 use Rattle.values.proofs.literal_at.Lts as lts
-use Rattle.values.proofs.of_text.Reads as of-text-reads
 
 part-of-text-start : tie.Need-part-of-text-start
 part-of-text-start c = search needs

@@ -9,21 +9,6 @@ use Rattle.values.proofs.of_text.Statement.{statement}
 use Rattle.values.proofs.of_text.Tie as tie
 use Rattle.values.proofs.of_text.Reads as reads
 use Rattle.values.proofs.of_text.Lts as lts
-use Rattle.addresses.proofs.ipv4.Reads as ipv4-reads
-use Rattle.addresses.proofs.ipv6.Reads as ipv6-reads
-use Rattle.numbers.proofs.as_number.Reads as as-number-reads
-use Rattle.numbers.proofs.float.Reads as float-reads
-use Rattle.numbers.proofs.hex.Reads as hex-reads
-use Rattle.numbers.proofs.integer.Reads as integer-reads
-use Rattle.strings.proofs.char_of.Reads as char-of-reads
-use Rattle.strings.proofs.string.Reads as string-reads
-use Rattle.values.proofs.bool_of.Reads as bool-of-reads
-use Rattle.values.proofs.from_address.Reads as from-address-reads
-use Rattle.values.proofs.from_amount.Reads as from-amount-reads
-use Rattle.values.proofs.from_number.Reads as from-number-reads
-use Rattle.values.proofs.from_point.Reads as from-point-reads
-use Rattle.values.proofs.from_quad.Reads as from-quad-reads
-use Rattle.values.proofs.from_size.Reads as from-size-reads
 
 ipv6-requires : tie.Need-ipv6-requires
 ipv6-requires c κs = search needs

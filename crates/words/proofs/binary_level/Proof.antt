@@ -6,9 +6,6 @@ use Rattle.words.proofs.binary_level.Statement.{statement}
 use Rattle.words.proofs.binary_level.Tie as tie
 use Rattle.words.proofs.binary_level.Reads as reads
 use Rattle.words.proofs.binary_level.Lts as lts
-use Rattle.words.proofs.is_compare.Reads as is-compare-reads
-use Rattle.words.proofs.is_product.Reads as is-product-reads
-use Rattle.words.proofs.is_sum.Reads as is-sum-reads
 
 returns : tie.Need-returns
 returns c = first _ (eq-eqb _ _ (c .if1 .taken)) refl

@@ -4,9 +4,6 @@ use Rattle.words.proofs.can_begin_expr.Statement.{statement}
 use Rattle.words.proofs.can_begin_expr.Tie as tie
 use Rattle.words.proofs.can_begin_expr.Reads as reads
 use Rattle.words.proofs.can_begin_expr.Lts as lts
-use Rattle.words.proofs.is_four.Reads as is-four-reads
-use Rattle.words.proofs.is_literal.Reads as is-literal-reads
-use Rattle.words.proofs.is_path_item.Reads as is-path-item-reads
 
 is-literal-requires : tie.Need-is-literal-requires
 is-literal-requires c κs = search needs

@@ -5,7 +5,6 @@ use Rattle.words.proofs.can_begin_statement.Statement.{statement}
 use Rattle.words.proofs.can_begin_statement.Tie as tie
 use Rattle.words.proofs.can_begin_statement.Reads as reads
 use Rattle.words.proofs.can_begin_statement.Lts as lts
-use Rattle.words.proofs.can_begin_expr.Reads as can-begin-expr-reads
 
 can-begin-expr-requires : tie.Need-can-begin-expr-requires
 can-begin-expr-requires c κs = search needs

@@ -5,7 +5,6 @@ use Rattle.words.proofs.can_begin_type.Statement.{statement}
 use Rattle.words.proofs.can_begin_type.Tie as tie
 use Rattle.words.proofs.can_begin_type.Reads as reads
 use Rattle.words.proofs.can_begin_type.Lts as lts
-use Rattle.words.proofs.is_path_item.Reads as is-path-item-reads
 
 is-path-item-requires : tie.Need-is-path-item-requires
 is-path-item-requires c κs = search needs

@@ -4,7 +4,6 @@ use Rattle.words.proofs.ends_return.Statement.{statement}
 use Rattle.words.proofs.ends_return.Tie as tie
 use Rattle.words.proofs.ends_return.Reads as reads
 use Rattle.words.proofs.ends_return.Lts as lts
-use Rattle.words.proofs.can_begin_expr.Reads as can-begin-expr-reads
 
 can-begin-expr-requires : tie.Need-can-begin-expr-requires
 can-begin-expr-requires c κs = search needs

@@ -4,7 +4,6 @@ use Rattle.parser.proofs.Limits.chained.Statement.{statement}
 use Rattle.parser.proofs.Limits.chained.Tie as tie
 use Rattle.parser.proofs.Limits.chained.Reads as reads
 use Rattle.parser.proofs.Limits.chained.Lts as lts
-use Rattle.parser.proofs.one_more.Reads as one-more-reads
 
 one-more-requires : tie.Need-one-more-requires
 one-more-requires c κs = search needs

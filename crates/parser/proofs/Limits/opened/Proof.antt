@@ -4,7 +4,6 @@ use Rattle.parser.proofs.Limits.opened.Statement.{statement}
 use Rattle.parser.proofs.Limits.opened.Tie as tie
 use Rattle.parser.proofs.Limits.opened.Reads as reads
 use Rattle.parser.proofs.Limits.opened.Lts as lts
-use Rattle.parser.proofs.one_more.Reads as one-more-reads
 
 one-more-requires : tie.Need-one-more-requires
 one-more-requires c κs = search needs

@@ -1,0 +1,117 @@
+-- A row of return forms, read by a loop.
+use mathlib.Core.Path.{_≡_, refl, sym, ap, subst, _∙_}
+use mathlib.Core.List.{List, [], _∷_}
+use mathlib.Core.Bool.{Bool, true, false}
+use mathlib.Core.Option.{some}
+use mathlib.Core.Logic.{_≢_}
+use Prim.Native.Nat.{ℕ, _+_, _≤_, _<_}
+use lib.Dec.{T, T-not}
+use lib.ListN.{length, set, length-set}
+use native.Mathlib.Omega.{arith}
+use native.Mathlib.Numerals.{add-one}
+use Rattle.tokens.specs.declared.Refusal.{Refusal}
+use Rattle.rows.specs.declared.Row.{Row}
+use Rattle.rows.specs.Rows.{putRow}
+use Rattle.grammar.specs.Words.{return-words}
+use Rattle.grammar.specs.Grammar.{one-of}
+use Rattle.grammar.specs.Limits.{inside}
+use Rattle.grammar.specs.Table.{a, row}
+use Rattle.grammar.specs.Kinds.{EXPR, RETURNED}
+use Rattle.grammar.specs.Rows.{detail-for}
+use Rattle.parser.specs.declared.Here.{Here}
+use Rattle.parser.specs.declared.Limits.{Limits}
+use Rattle.parser.specs.declared.Node.{Node}
+use Rattle.parser.specs.declared.Read.{Read}
+use Rattle.parser.specs.declared.Read.the-variants.{Done, Refused}
+use Rattle.parser.specs.Places.{later, under, nodeOf}
+use Rattle.parser.specs.Counted.{counts, signed}
+use Rattle.parser.specs.Going.{Stands, many, Going, Answers}
+use Rattle.parser.proofs.Laws.{bump-more}
+use Rattle.parser.proofs.Going.{at, out, stopped}
+use Rattle.parser.proofs.Steps.{under-done}
+use Rattle.promises.specs.Firsts.{exprFirsts, endsReturn, returnRow}
+use Rattle.promises.specs.Promises.{the, Last, overRead, overTable}
+use Rattle.promises.proofs.Alternatives.{within, rest-expr}
+use Rattle.promises.proofs.Answered.{finished}
+use Rattle.promises.proofs.Exprs.{goes-on, is-return, no-return, returned-none, returned-some, return-deep, return-goes}
+use Rattle.promises.proofs.Heads.{reads-it, refuses-it}
+use Rattle.promises.proofs.Overs.{Over, over-none, over-refused, over-ends, over-deeper, pushed-set}
+
+-- the last, from behind its word on
+module _ (l : Limits) (b : Bool) (x : Node) (j : ℕ) {s : List ℕ} {z : Here} {t : List ℕ} where
+  pub last-ends : {r : Read} {t′ : List ℕ} → T (endsReturn (z .word) b) → r ≡ Done (nodeOf (returnRow (x .start) (x .end) 0 j)) (later z) → t′ ≡ putRow t (z .rows) (returnRow (x .start) (x .end) 0 j) → Last s z t l b x j r t′
+  unfolding inside
+  last-ends e o y f w q v g = finished (out (returned-none b e g)) (omega arith) refl refl (ap (returnRow (x .start) (x .end) 0) v) o y
+
+  module _ (n : T (endsReturn (z .word) b) → ⊥) {r : Read} {t′ : List ℕ} (u : Answers (the s (counts l) (EXPR b) z t) 1 r t′) where
+    pub last-fails : {e : Refusal} → r ≡ Refused e → Last s z t l b x j r t′
+    unfolding inside
+    last-fails e f w q v g = stopped e (refuses-it q refl u (returned-some b n g) e)
+
+    pub last-valued : {m : Node} {h : Here} {r′ : Read} {t″ : List ℕ} → r ≡ Done m h → r′ ≡ Done (nodeOf (returnRow (x .start) (m .end) 1 j)) (later h) → t″ ≡ putRow t′ (h .rows) (returnRow (x .start) (m .end) 1 j) → Last s z t l b x j r′ t″
+    unfolding inside
+    last-valued {m = m} e o y f w q v g = finished (out (reads-it q refl u (returned-some b n g) (rest-expr b) e)) (omega arith) refl refl (ap (returnRow (x .start) (m .end) 1) v) o y
+
+-- a return word begins an expr
+no-end : (x : ℕ) (b : Bool) → T (one-of x return-words) → T (endsReturn x b) → ⊥
+no-end x true w e = T-not (one-of x exprFirsts) e (within x return-words exprFirsts tt w)
+no-end x false w e = e
+
+-- whether a return word stands there, by its detail
+pub return-there : {s : List ℕ} {z : Here} {n : ℕ} → Stands s z → n ≡ detail-for 27 (z .word) → n ≢ 0 → T (one-of (z .word) return-words)
+return-there {z = z} g e m = is-return (z .word) e m
+
+pub return-elsewhere : {s : List ℕ} {z : Here} {n : ℕ} → Stands s z → n ≡ detail-for 27 (z .word) → n ≡ 0 → T (one-of (z .word) return-words) → ⊥
+return-elsewhere {z = z} g e m = no-return (z .word) e m
+
+-- The loop stands at a return word behind n others; the expr of the first ends with what begins here.
+pub record Returns (s : List ℕ) (b : Bool) (l₀ : Limits) (h₀ : Here) (t₀ starts details : List ℕ) (n : ℕ) (l : Limits) (h : Here) (t : List ℕ) : Type 0 where
+  pub stands : Stands s h
+  pub word : T (one-of (h .word) return-words)
+  pub over : Over (the s (counts l₀) (EXPR b) h₀ t₀) (the s (counts l) (EXPR b) h t) starts details 27 1 n
+  pub few : n ≤ l .signs
+  pub further : h₀ .next ≤ h .next
+  pub kept : length t ≡ length t₀
+  pub room : (length starts ≡ 32) × (length details ≡ 32)
+
+pub returns-begin : {s : List ℕ} {b : Bool} {l : Limits} {h : Here} {t starts details : List ℕ} → Stands s h → T (one-of (h .word) return-words) → length starts ≡ 32 → length details ≡ 32 → Returns s b l h t starts details 0 l h t
+returns-begin g w i j = record { stands = g; word = w; over = over-none; few = omega arith; further = omega arith; kept = refl; room = (i, j) }
+
+module _ {s : List ℕ} {b : Bool} {l₀ : Limits} {h₀ : Here} {t₀ starts details : List ℕ} {n : ℕ} {l : Limits} {h : Here} {t : List ℕ} (w : Returns s b l₀ h₀ t₀ starts details n l h t) {r : Read} (p : r ≡ under s h (l .signs)) where
+  pub returns-deep : {e : Refusal} → r ≡ Refused e → Answers (the s (counts l₀) (EXPR b) h₀ t₀) 1 r t
+  returns-deep q = over-refused (w .over) (return-deep s l b h t (w .stands) (w .word) p q) q
+
+  module _ {x : Node} {z : Here} (q : r ≡ Done x z) where
+    goes : Going (the s (counts l) (EXPR b) h t) (at (counts (signed l)) (a (RETURNED b) ∷ row 27 ∷ []) ∷ []) z t (many (x .start) (x .end) 0 (some (h .word))) 0 4
+    goes = return-goes s l b h t (w .stands) (w .word) p q
+
+    pub returns-behind : Stands s z × (h .next < z .next) × (h .next < 65537) × (n < 32)
+    returns-behind = let y = goes-on goes (omega arith) in let k = under-done s h (l .signs) p q .0 in let f = w .few in (goes .stands, y .0, y .1, omega (arith, k, f))
+
+    pub returns-end : {l′ : Limits} {j : ℕ} {r₁ r₂ : Read} {t₁ t₂ : List ℕ} → l′ ≡ signed l → j ≡ detail-for 27 (h .word) → Last s z t l′ b x j r₁ t₁ → r₂ ≡ overRead starts details 27 1 n r₁ → t₂ ≡ overTable starts details 27 1 n r₁ t₁ → Answers (the s (counts l₀) (EXPR b) h₀ t₀) 1 r₂ t₂
+    returns-end {l′} i v u o y = over-ends (w .over) (u (the s (counts l) (EXPR b) h t) (h .word) refl v (subst (λ (k : Limits). Going (the s (counts l) (EXPR b) h t) (at (counts k) (a (RETURNED b) ∷ row 27 ∷ []) ∷ []) z t (many (x .start) (x .end) 0 (some (h .word))) 0 4) (sym i) goes)) o y
+
+    pub returns-on : {l′ : Limits} {j : ℕ} {starts′ details′ : List ℕ} → T (one-of (z .word) return-words) → l′ ≡ signed l → j ≡ detail-for 27 (h .word) → starts′ ≡ set starts n (x .start) → details′ ≡ set details n j → Returns s b l₀ h₀ t₀ starts′ details′ (n + 1) l′ z t
+    returns-on {l′} {j} {starts′} {details′} m i v c d =
+        let k = under-done s h (l .signs) p q .0 in
+        let f = w .few in
+        let e : n < 32 = omega (arith, k, f) in
+        let big : l .signs + 1 ≡ l′ .signs = bump-more 200 (l .signs) (omega (arith, k)) ∙ ap (λ (x : Limits). x .signs) (sym i) in
+        record {
+          stands = goes .stands;
+          word = m;
+          over = subst (Over (the s (counts l₀) (EXPR b) h₀ t₀) (the s (counts l′) (EXPR b) z t) starts′ details′ 27 1) (sym (add-one n)) (over-deeper (w .over) (pushed-set starts n (x .start) (omega (arith, e, w .room .0)) c) (pushed-set details n j (omega (arith, e, w .room .1)) d) valued fails);
+          few = omega (arith, f, big);
+          further = let o = w .further in let y = returns-behind .1 in omega (arith, o, y);
+          kept = w .kept;
+          room = (ap (λ (y : List ℕ). length y) c ∙ length-set starts n (x .start) ∙ w .room .0, ap (λ (y : List ℕ). length y) d ∙ length-set details n j ∙ w .room .1);
+        }
+      where
+        inner : Going (the s (counts l) (EXPR b) h t) (at (counts l′) (a (RETURNED b) ∷ row 27 ∷ []) ∷ []) z t (many (x .start) (x .end) 0 (some (h .word))) 0 4
+        inner = subst (λ (k : Limits). Going (the s (counts l) (EXPR b) h t) (at (counts k) (a (RETURNED b) ∷ row 27 ∷ []) ∷ []) z t (many (x .start) (x .end) 0 (some (h .word))) 0 4) (sym i) goes
+
+        valued : (m₁ : Node) (h₁ : Here) (t₁ t₂ : List ℕ) (q₁ : Row) → Answers (the s (counts l′) (EXPR b) z t) 1 (Done m₁ h₁) t₁ → q₁ ≡ returnRow (x .start) (m₁ .end) 1 j → t₂ ≡ putRow t₁ (h₁ .rows) q₁ → Answers (the s (counts l) (EXPR b) h t) 1 (Done (nodeOf q₁) (later h₁)) t₂
+        valued m₁ h₁ t₁ t₂ q₁ u e y = last-valued l′ b x j (no-end (z .word) b m) u refl (ap (λ (k : Row). Done (nodeOf k) (later h₁)) e) (y ∙ ap (putRow t₁ (h₁ .rows)) e) (the s (counts l) (EXPR b) h t) (h .word) refl v inner
+
+        fails : (e : Refusal) (t₁ : List ℕ) → Answers (the s (counts l′) (EXPR b) z t) 1 (Refused e) t₁ → Answers (the s (counts l) (EXPR b) h t) 1 (Refused e) t₁
+        fails e t₁ u = last-fails l′ b x j (no-end (z .word) b m) u refl (the s (counts l) (EXPR b) h t) (h .word) refl v inner
