@@ -28,7 +28,6 @@ use Rattle.tokens.specs.Rules.{whenFit, signFit, thenFit, pairAt, ipv6At, perio
 use Rattle.tokens.specs.Tokens.{stepAt}
 use Rattle.grammar.specs.Grammar.{found}
 use Rattle.grammar.specs.Grammar as grammar
-use Rattle.grammar.specs.Readings.{word-of, peek}
 use Rattle.grammar.proofs.Bools.{and-l, and-r}
 use Rattle.answers.specs.Source.{source, lookOf, lookAfter}
 
@@ -335,15 +334,3 @@ module _ (s : List ℕ) where
       go : (k : Step) → Steps i k → lookOf s k ≡ found x j → ahead j < ahead i
       go (Taken t w next) (steps-token h m p v) q = let z : next .at ≡ j = cc in omega arith
       go (Refused r) h q = after (eqb (r .number) 11) r q
-
-  -- for the choice of an alternative: every word that stands somewhere is below 100
-  pub peek-small : (l : grammar.Language) (i : ℕ) → peek (source s) l i < 100
-  peek-small l i = go (stepAt s i) (step-goes i)
-    where
-      after : (c : Bool) (r : Refusal) → word-of (source s) l (lookAfter c r) < 100
-      after true r = omega arith
-      after false r = omega arith
-
-      go : (k : Step) → Steps i k → word-of (source s) l (lookOf s k) < 100
-      go (Taken t w next) (steps-token h m p v) = omega arith
-      go (Refused r) h = after (eqb (r .number) 11) r

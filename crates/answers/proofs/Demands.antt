@@ -1,5 +1,5 @@
 -- Demands 1 and 3 hold.
-use mathlib.Core.Path.{_≡_, refl, ap, subst, _∙_}
+use mathlib.Core.Path.{_≡_, refl, ap, _∙_}
 use mathlib.Core.List.{List, _++_}
 use mathlib.Core.Bool.{Bool, true, false, _||_}
 use mathlib.Core.Logic.{inl, inr, _≢_}
@@ -7,15 +7,9 @@ use Prim.Native.Nat.{ℕ, _+_, _-_, _*_, _≤_}
 use lib.Dec.{T, eqb, leb, leb→le, le→leb, eqb→eq}
 use lib.ListN.{length, replicate}
 use native.Mathlib.Omega.{arith}
-use Rattle.chars.specs.declared.Class.the-variants.{Ascii}
-use Rattle.chars.specs.Chars.{pick, isClass}
-use Rattle.chars.specs.Runs.{pastRun}
-use Rattle.tokens.specs.declared.Refusal.{Refusal}
+use Rattle.chars.specs.Chars.{pick}
 use Rattle.tokens.specs.declared.Answer.{Answer}
-use Rattle.tokens.specs.declared.Whole.{Whole}
-use Rattle.tokens.specs.declared.Whole.the-variants.{Fine, Refused as Bad}
-use Rattle.tokens.specs.Rules.{pairAt}
-use Rattle.tokens.specs.Tokens.{wholeOf, counted}
+use Rattle.tokens.specs.Tokens.{counted}
 use Rattle.grammar.specs.Grammar.{Parts}
 use Rattle.grammar.specs.Rows.{width, flat, nodes}
 use Rattle.grammar.specs.Answers.{accepts, stops, leaves}
@@ -25,33 +19,8 @@ use Rattle.answers.specs.Source.{source}
 use Rattle.answers.specs.Entries.{room, Permitted, early, read}
 use Rattle.answers.specs.Demands.{rowsOf, itself, Demand1, Demand3}
 use Rattle.answers.proofs.Scans.{look-number}
-use Rattle.answers.proofs.Determined.{one-permitted, accepted-reads, reading-accepted}
+use Rattle.answers.proofs.Determined.{whole-number, one-permitted, accepted-reads, reading-accepted}
 use Rattle.answers.proofs.Bytes.{a-permitted}
-
--- 1, 2 and 3
-data Tested : Whole → Type 0 where
-  tested-fine : Tested Fine
-  tested-bad : {r : Refusal} → r .number ≤ 3 → Tested (Bad r)
-
-tested-pick : (b : Bool) {x d : Whole} → Tested x → Tested d → Tested (pick b x d)
-tested-pick true h k = h
-tested-pick false h k = k
-
-tested-whole : (s : List ℕ) → Tested (wholeOf s)
-unfolding wholeOf
-tested-whole s =
-    let high : ℕ = pastRun (isClass Ascii) s 0 in
-    tested-pick (lib.Dec.ltb 65535 (length s)) (tested-bad (omega arith))
-    (tested-pick (lib.Dec.ltb high (length s)) (tested-bad (omega arith))
-    (tested-pick (pairAt s 0 35 33) (tested-bad (omega arith))
-    tested-fine))
-
-whole-number : (s : List ℕ) (r : Refusal) → wholeOf s ≡ Bad r → r .number ≤ 3
-whole-number s r e = go (wholeOf s) (tested-whole s) e
-  where
-    go : (w : Whole) → Tested w → w ≡ Bad r → r .number ≤ 3
-    go Fine h q = let z : _≡_ {A = ℕ} 0 1 = cc in absurd (omega arith)
-    go (Bad r′) (tested-bad h) q = let k : r′ ≡ r = cc in subst (λ (x : Refusal). x .number ≤ 3) k h
 
 -- 4 to 9 and 11
 refusal-small : (n : ℕ) → T (is-refusal n) → n ≤ 11
@@ -69,7 +38,7 @@ module _ (tests tree : Bool) (s : List ℕ) (size : ℕ) where
       go false = omega arith
 
   small : {a : Answer} {t : List ℕ} → Permitted tests tree s size a t → a .number ≤ 11
-  small (early {r = r} e) = let h = whole-number s r e in omega arith
+  small (early {r = r} e) = let h = whole-number s r e .1 in omega arith
   small (read e (accepts {p = p} x)) = counted-number (length (rowsOf tree s p)) (room size)
   small (read e (stops {z = z} {y = y} f)) = refusal-small _ (refused-number (source s) tests tree (length s) (look-number s) _ (stops f) refl)
   small (read e (leaves u h)) = refusal-small _ (refused-number (source s) tests tree (length s) (look-number s) _ (leaves u h) refl)

@@ -29,7 +29,7 @@ use Rattle.answers.specs.Entries.{room, answerFor, tableFor, Permitted, 
 -- 1, 2, 3 come before
 data Tested : Whole → Type 0 where
   tested-fine : Tested Fine
-  tested-bad : {r : Refusal} → 1 ≤ r .number → Tested (Bad r)
+  tested-bad : {r : Refusal} → 1 ≤ r .number → r .number ≤ 3 → Tested (Bad r)
 
 tested-pick : (b : Bool) {x d : Whole} → Tested x → Tested d → Tested (pick b x d)
 tested-pick true h k = h
@@ -39,17 +39,17 @@ tested-whole : (s : List ℕ) → Tested (wholeOf s)
 unfolding wholeOf
 tested-whole s =
     let high : ℕ = pastRun (isClass Ascii) s 0 in
-    tested-pick (ltb 65535 (length s)) (tested-bad (omega arith))
-    (tested-pick (ltb high (length s)) (tested-bad (omega arith))
-    (tested-pick (pairAt s 0 35 33) (tested-bad (omega arith))
+    tested-pick (ltb 65535 (length s)) (tested-bad (omega arith) (omega arith))
+    (tested-pick (ltb high (length s)) (tested-bad (omega arith) (omega arith))
+    (tested-pick (pairAt s 0 35 33) (tested-bad (omega arith) (omega arith))
     tested-fine))
 
-whole-number : (s : List ℕ) (r : Refusal) → wholeOf s ≡ Bad r → 1 ≤ r .number
+pub whole-number : (s : List ℕ) (r : Refusal) → wholeOf s ≡ Bad r → (1 ≤ r .number) × (r .number ≤ 3)
 whole-number s r e = go (wholeOf s) (tested-whole s) e
   where
-    go : (w : Whole) → Tested w → w ≡ Bad r → 1 ≤ r .number
+    go : (w : Whole) → Tested w → w ≡ Bad r → (1 ≤ r .number) × (r .number ≤ 3)
     go Fine h q = let z : _≡_ {A = ℕ} 0 1 = cc in absurd (omega arith)
-    go (Bad r′) (tested-bad h) q = let k : r′ ≡ r = cc in subst (λ (x : Refusal). 1 ≤ x .number) k h
+    go (Bad r′) (tested-bad h i) q = let k : r′ ≡ r = cc in subst (λ (x : Refusal). (1 ≤ x .number) × (x .number ≤ 3)) k (h, i)
 
 zero-refusal : (n : ℕ) → T (is-refusal n) → n ≡ 0 → ⊥
 zero-refusal n h e = let k = leb→le 4 n (and-l (leb 4 n) (leb n 9 || eqb n 11) h) in omega arith
@@ -72,7 +72,7 @@ module _ (tests tree : Bool) (s : List ℕ) (size : ℕ) where
     pub table : t ≡ flat (rows tree (length s) parts) ++ replicate (size - width * length (rows tree (length s) parts)) 0
 
   pub accepted-reads : {a : Answer} {t : List ℕ} → Permitted tests tree s size a t → a .number ≡ 0 → Accepted a t
-  accepted-reads (early {r = r} e) q = absurd (let h = whole-number s r e in omega arith)
+  accepted-reads (early {r = r} e) q = absurd (let h = whole-number s r e .0 in omega arith)
   accepted-reads (read e (accepts {p = p} x)) q = go (leb (length (rows tree (length s) p)) (room size)) refl q
     where
       n : ℕ

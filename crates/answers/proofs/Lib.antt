@@ -1,6 +1,5 @@
 pub mod Ahead
 pub mod Scans
-pub mod Steps
 pub mod Determined
 pub mod Bytes
 pub mod Computed

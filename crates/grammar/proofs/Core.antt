@@ -10,7 +10,7 @@ use native.Mathlib.Omega.{arith}
 use Rattle.grammar.specs.Words.{the-end, no-token}
 use Rattle.grammar.specs.Grammar.{Ask, has-value, same, Look, found, over, wrong, Stream, Symbol, phrase, left-side, text, Token, Parts, mark, Language, Pair, View, one, pair, ite, one-of, alternatives, In, here, there}
 use Rattle.grammar.specs.Limits.{Counts, after, inside}
-use Rattle.grammar.specs.Choice.{eqv, among, flag, two, base, firsts, follows, see, minus, sees, front, fronts, first, choose, chosen-from, chosen, or-else, spare, idle, hollow, hollows, only}
+use Rattle.grammar.specs.Choice.{eqv, among, flag, two, base, firsts, follows, see, minus, sees, front, fronts, first, choose, chosen, or-else, spare, idle, hollow, hollows, only}
 use Rattle.grammar.specs.Readings.{word-of, peek, reads-end, reads-token, reads-phrase, reads-unless, reads-note, reads-side, reads-text, ReadingBy}
 use Rattle.grammar.specs.Runs.{viewed, view, may, RunBy}
 use Rattle.grammar.proofs.Bools.{and-l, and-r, or-l, or-r, or-cases, T→eq, F→eq, both}
@@ -112,17 +112,6 @@ module _ (S : Stream) (l : Language) where
 
   idle-in : (ss : List (List Symbol)) (a : List Symbol) → idle ss ≡ some a → In a ss
   idle-in ss a e = or-in (hollows ss) (only ss) (hollows-in ss a) (only-in ss a) e
-
-  -- the only alternative is read whatever stands there
-  pub only-one : (a : List Symbol) (f : List View) (v : View) → chosen-from l (a ∷ []) f v ≡ some a
-  only-one a f v = go (among v (first l a f)) (among (one (base v)) (first l a f)) (among (pair (base v)) (first l a f)) (hollow a)
-    where
-      go : (x y z w : Bool) → or-else (ite x (some a) none) (or-else (ite y (some a) none) (or-else (ite z (some a) none) (or-else (ite w (some a) none) (some a)))) ≡ some a
-      go true y z w = refl
-      go false true z w = refl
-      go false false true w = refl
-      go false false false true = refl
-      go false false false false = refl
 
   pub chosen-in : (n : ℕ) (v : View) (a : List Symbol) → chosen l n v ≡ some a → In a (alternatives l n)
   chosen-in n v a e =

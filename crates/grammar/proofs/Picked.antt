@@ -171,34 +171,23 @@ module _ (l : Language) (n : ℕ) (o : Option (List Symbol)) where
 
 -- where the next token decides too: the two views of a class apart
 module _ (l : Language) (n : ℕ) (o : Option (List Symbol)) where
-  unfoldable pub picks-one : List ℕ → Bool
-  picks-one [] = true
-  picks-one (c ∷ w) = is (chosen l n (one c)) o && picks-one w
+  -- by what is seen: a word alone, or a word and its partner behind it
+  unfoldable pub picks-by : (ℕ → View) → List ℕ → Bool
+  picks-by v [] = true
+  picks-by v (c ∷ w) = is (chosen l n (v c)) o && picks-by v w
 
-  unfoldable pub picks-pair : List ℕ → Bool
-  picks-pair [] = true
-  picks-pair (c ∷ w) = is (chosen l n (pair c)) o && picks-pair w
-
-  one-at : (w : List ℕ) (c : ℕ) → T (picks-one w) → T (one-of c w) → chosen l n (one c) ≡ o
-  unfolding picks-one
-  one-at [] c t m = absurd m
-  one-at (k ∷ w) c t m = elim (or-cases (eqb c k) (one-of c w) m) [
-    | inl e ↦ subst (λ (x : ℕ). chosen l n (one x) ≡ o) (sym (eqb→eq c k e)) (is→ (chosen l n (one k)) o (and-l (is (chosen l n (one k)) o) (picks-one w) t))
-    | inr h ↦ one-at w c (and-r (is (chosen l n (one k)) o) (picks-one w) t) h
-  ]
-
-  pair-at : (w : List ℕ) (c : ℕ) → T (picks-pair w) → T (one-of c w) → chosen l n (pair c) ≡ o
-  unfolding picks-pair
-  pair-at [] c t m = absurd m
-  pair-at (k ∷ w) c t m = elim (or-cases (eqb c k) (one-of c w) m) [
-    | inl e ↦ subst (λ (x : ℕ). chosen l n (pair x) ≡ o) (sym (eqb→eq c k e)) (is→ (chosen l n (pair k)) o (and-l (is (chosen l n (pair k)) o) (picks-pair w) t))
-    | inr h ↦ pair-at w c (and-r (is (chosen l n (pair k)) o) (picks-pair w) t) h
+  by-at : (v : ℕ → View) (w : List ℕ) (c : ℕ) → T (picks-by v w) → T (one-of c w) → chosen l n (v c) ≡ o
+  unfolding picks-by
+  by-at v [] c t m = absurd m
+  by-at v (k ∷ w) c t m = elim (or-cases (eqb c k) (one-of c w) m) [
+    | inl e ↦ subst (λ (x : ℕ). chosen l n (v x) ≡ o) (sym (eqb→eq c k e)) (is→ (chosen l n (v k)) o (and-l (is (chosen l n (v k)) o) (picks-by v w) t))
+    | inr h ↦ by-at v w c (and-r (is (chosen l n (v k)) o) (picks-by v w) t) h
   ]
 
   module _ (S : Stream) where
     -- a token in front of what it is looked at together with, and in front of anything else
-    pub pair-place : {x : Token} {j : S .Place} (w : List ℕ) (i : S .Place) → S .look i ≡ found x j → T (flag (l .pairs) (x .word) (peek S l j)) → T (picks-pair w) → T (one-of (x .word) w) → chosen l n (view S l i) ≡ o
-    pair-place {x} {j} w i e f t m = ap (λ (k : Look (S .Place)). chosen l n (viewed S l k)) e ∙ ap (λ (b : Bool). chosen l n (ite b (pair (x .word)) (one (x .word)))) (T→eq (flag (l .pairs) (x .word) (peek S l j)) f) ∙ pair-at w (x .word) t m
+    pub pair-place : {x : Token} {j : S .Place} (w : List ℕ) (i : S .Place) → S .look i ≡ found x j → T (flag (l .pairs) (x .word) (peek S l j)) → T (picks-by pair w) → T (one-of (x .word) w) → chosen l n (view S l i) ≡ o
+    pair-place {x} {j} w i e f t m = ap (λ (k : Look (S .Place)). chosen l n (viewed S l k)) e ∙ ap (λ (b : Bool). chosen l n (ite b (pair (x .word)) (one (x .word)))) (T→eq (flag (l .pairs) (x .word) (peek S l j)) f) ∙ by-at pair w (x .word) t m
 
-    pub one-place : {x : Token} {j : S .Place} (w : List ℕ) (i : S .Place) → S .look i ≡ found x j → (T (flag (l .pairs) (x .word) (peek S l j)) → ⊥) → T (picks-one w) → T (one-of (x .word) w) → chosen l n (view S l i) ≡ o
-    one-place {x} {j} w i e f t m = ap (λ (k : Look (S .Place)). chosen l n (viewed S l k)) e ∙ ap (λ (b : Bool). chosen l n (ite b (pair (x .word)) (one (x .word)))) (F→eq (flag (l .pairs) (x .word) (peek S l j)) f) ∙ one-at w (x .word) t m
+    pub one-place : {x : Token} {j : S .Place} (w : List ℕ) (i : S .Place) → S .look i ≡ found x j → (T (flag (l .pairs) (x .word) (peek S l j)) → ⊥) → T (picks-by one w) → T (one-of (x .word) w) → chosen l n (view S l i) ≡ o
+    one-place {x} {j} w i e f t m = ap (λ (k : Look (S .Place)). chosen l n (viewed S l k)) e ∙ ap (λ (b : Bool). chosen l n (ite b (pair (x .word)) (one (x .word)))) (F→eq (flag (l .pairs) (x .word) (peek S l j)) f) ∙ by-at one w (x .word) t m

@@ -8,7 +8,7 @@ use lib.Dec.{eqb}
 use native.Mathlib.Omega.{arith}
 use Rattle.grammar.specs.Grammar.{Token}
 use Rattle.grammar.specs.Table.{literal-row}
-use Rattle.grammar.specs.Rows.{Row, Item, own, child, start-of, end-of, ends, count, sign-of, detail-for, row-of, Draft, take-note, add-row}
+use Rattle.grammar.specs.Rows.{Row, Item, own, child, start-of, end-of, ends, count, sign-of, detail-for, row-of}
 
 -- nothing yet; or where the first item begins, where the last ends, how many are rows, and the first word, if any
 pub data Sum : Type 0 where
@@ -89,8 +89,3 @@ pub row-sum : (k : ℕ) (xs : List Item) (part : ℕ) → eqb k literal-row ≡ 
 unfolding row-of
 row-sum k [] part e = rw e refl
 row-sum k (x ∷ xs) part e = rw (e, sign-word (x ∷ xs)) refl
-
--- the draft behind a row's note
-pub note-sum : (k : ℕ) (a : Draft) → eqb k 0 ≡ false → eqb k literal-row ≡ false → take-note k a ≡ add-row (sum-row k (sum-of (a .items)) (a .part)) a
-unfolding take-note
-note-sum k a z e = rw (z, row-sum k (a .items) (a .part) e) refl

@@ -43,10 +43,6 @@ ahead-le stop (b ∷ l) = go (eqb b stop) (ahead-le stop l)
     go false h = suc-le-suc h
 
 module _ (stop : ℕ) (t : List ℕ) (i : ℕ) where
-  pub until-le : i ≤ length t → untilByte stop t i ≤ length t
-  unfolding untilByte
-  until-le h = omega (arith, ahead-le stop (drop i t), length-drop i t)
-
   pub until-ge : i ≤ untilByte stop t i
   unfolding untilByte
   until-ge = omega arith

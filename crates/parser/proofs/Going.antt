@@ -34,7 +34,7 @@ use Rattle.parser.specs.Places.{passed, unusedAt, refusalAt, later}
 use Rattle.parser.specs.Going.{language, tokenOf, Stands, asRow, store, Tally, bare, lone, many, Holds, withToken, withNode, countOf, rowOver, Phrase, Going, Whole, Stopped, Either, Answers}
 use Rattle.parser.proofs.Standing.{solid, solid-word, peeks, next-small, is-token, says, lacking, goes-past, more-rows}
 use Rattle.parser.proofs.Tables.{store-append, store-row, store-length}
-use Rattle.parser.proofs.Tallies.{holds-token, holds-node, holds-row}
+use Rattle.parser.proofs.Tallies.{Leaves, holds-token, holds-node, holds-row}
 
 -- the counts of a token's own, and one phrase left
 abbrev pub at : Counts → List Symbol → Left
@@ -67,24 +67,39 @@ few-rows {f} {h = h} {y = y} g =
     let r = g .rows in
     (omega arith, omega arith, omega arith, omega arith, omega arith)
 
+-- past a token
+pub record Past (f : Phrase) (ks : List Left) (h h′ : Here) (a : Draft) : Type 0 where
+  pub opened : Open (source (f .text)) language (f .counts) same (f .kind) (f .from .place) ks (h′ .place) (with-own (tokenOf (f .text) h) a)
+  pub stands : Stands (f .text) h′
+  pub next : h .next < h′ .next
+  pub rows : h′ .rows ≡ h .rows
+
+pub goes-by : (f : Phrase) (h : Here) {d : Counts} {ks : List Left} {h′ : Here} {a : Draft} {ss : List Symbol} {q : Ask} {w : List ℕ} → Open (source (f .text)) language (f .counts) same (f .kind) (f .from .place) (at d (token q w ∷ ss) ∷ ks) (h .place) a → Stands (f .text) h → T (solid w) → T (one-of (h .word) w) → T (kept q d (tokenOf (f .text) h)) → h′ ≡ passed (f .text) h → Past f (at (after q d) ss ∷ ks) h h′ a
+goes-by f h {d} {ks} {h′} {a} {ss} {q} {w} g st o m p e =
+    let s = f .text in
+    let n = solid-word (h .word) w o m in
+    let b = is-token st (n .0) (n .1) in
+    let z = goes-past st (n .0) (n .1) e in
+    record {
+      opened = subst (λ (x : ℕ). Open (source s) language (f .counts) same (f .kind) (f .from .place) (at (after q d) ss ∷ ks) x (with-own (tokenOf s h) a)) (sym (z .1)) (take (source s) language (b .0) (and-l (no-text w) (not (one-of 0 w) && not (one-of 99 w)) o) m p g);
+      stands = z .0;
+      next = z .2;
+      rows = z .3;
+    }
+
 module _ {f : Phrase} {d : Counts} {ks : List Left} {h : Here} {t : List ℕ} {y : Tally} {v k : ℕ} where
-  -- past a token
   pub takes : {ss : List Symbol} {q : Ask} {w : List ℕ} {h′ : Here} → Going f (at d (token q w ∷ ss) ∷ ks) h t y v k → T (solid w) → T (one-of (h .word) w) → T (kept q d (tokenOf (f .text) h)) → h′ ≡ passed (f .text) h → Going f (at (after q d) ss ∷ ks) h′ t (withToken y h) v (k + 4)
   takes {ss = ss} {q = q} {w = w} {h′ = h′} g o m p e =
-      let s = f .text in
-      let n = solid-word (h .word) w o m in
-      let b = is-token (g .stands) (n .0) (n .1) in
-      let z = goes-past (g .stands) (n .0) (n .1) e in
-      let a = take (source s) language (b .0) (and-l (no-text w) (not (one-of 0 w) && not (one-of 99 w)) o) m p (g .opened) in
-      let r = z .3 in
-      let l = z .2 in
+      let x = goes-by f h (g .opened) (g .stands) o m p e in
+      let r = x .rows in
+      let l = x .next in
       let c = g .counted in
       let u = g .spares in
       record {
-        draft = with-own (tokenOf s h) (g .draft);
-        opened = subst (λ (x : ℕ). Open (source s) language (f .counts) same (f .kind) (f .from .place) (at (after q d) ss ∷ ks) x (with-own (tokenOf s h) (g .draft))) (sym (z .1)) a;
-        stands = z .0;
-        holds = holds-token s h y (g .draft .items) (g .holds);
+        draft = with-own (tokenOf (f .text) h) (g .draft);
+        opened = x .opened;
+        stands = x .stands;
+        holds = holds-token (f .text) h y (g .draft .items) (g .holds);
         part = g .part;
         rows = r ∙ g .rows;
         stored = g .stored;
@@ -172,27 +187,43 @@ stops-with s {i = i} {z = z} {y = y} e (stops-in {a = a} q g) = stops-in q (subs
 abbrev pub next-phrase : Phrase → Counts → ℕ → Here → List ℕ → Phrase
 next-phrase f d n h t = record { text = f .text; counts = d; kind = n; from = h; table = t }
 
--- what a phrase in it adds
-pub adds : {f : Phrase} {ks : List Left} {h : Here} {t : List ℕ} {y : Tally} {v k n j : ℕ} {d : Counts} {m : Node} {z : Here} {t′ : List ℕ} (g : Going f ks h t y v k) (u : Whole (next-phrase f d n h t) j m z t′) → Holds (withNode y m) (g .draft .items ++ children-of (u .draft .items)) × (z .rows ≡ f .from .rows + length (g .draft .rows ++ u .draft .rows)) × (t′ ≡ store (f .table) (f .from .rows) (g .draft .rows ++ u .draft .rows)) × (f .from .rows + countOf (withNode y m) ≤ z .rows) × (z .rows + (k + j) + 4 * f .from .next ≤ f .from .rows + 4 * z .next)
-adds {f} {h = h} {y = y} {k = k} {j = j} {m = m} {z = z} g u =
+-- what is read next adds its rows and its one row
+pub record Added (f : Phrase) (k : ℕ) (h : Here) (t : List ℕ) (y : Tally) (a b : Draft) (m : Node) (z : Here) (t′ : List ℕ) (j : ℕ) : Type 0 where
+  pub holds : Holds (withNode y m) (a .items ++ children-of (b .items))
+  pub rows : z .rows ≡ f .from .rows + length (a .rows ++ b .rows)
+  pub stored : t′ ≡ store (f .table) (f .from .rows) (a .rows ++ b .rows)
+  pub counted : f .from .rows + countOf (withNode y m) ≤ z .rows
+  pub spares : z .rows + (k + j) + 4 * f .from .next ≤ f .from .rows + 4 * z .next
+
+pub adds : {f : Phrase} {ks : List Left} {h : Here} {t : List ℕ} {y : Tally} {v k j : ℕ} {b : Draft} {m : Node} {z : Here} {t′ : List ℕ} (g : Going f ks h t y v k) → Leaves m (b .items) → z .rows ≡ h .rows + length (b .rows) → t′ ≡ store t (h .rows) (b .rows) → h .rows + 1 ≤ z .rows → z .rows + j + 4 * h .next ≤ h .rows + 4 * z .next → Added f k h t y (g .draft) b m z t′ j
+adds {f} {h = h} {y = y} {b = b} {m = m} {z = z} g leaves ur stored uc us =
     let a : Draft = g .draft in
-    let b : Draft = u .draft in
     let len : length (a .rows ++ b .rows) ≡ length (a .rows) + length (b .rows) = length-append (a .rows) (b .rows) in
     let gr = g .rows in
-    let ur = u .rows in
     let gc = g .counted in
-    let uc = u .counted in
     let gs = g .spares in
-    let us = u .spares in
-    (holds-node m y (a .items) (b .items) (g .holds) (u .leaves), omega (arith, len, gr, ur), u .stored ∙ ap (λ (q : List ℕ). store q (h .rows) (b .rows)) (g .stored) ∙ ap (λ (q : ℕ). store (store (f .table) (f .from .rows) (a .rows)) q (b .rows)) gr ∙ sym (store-append (f .table) (f .from .rows) (a .rows) (b .rows)), counted-node y (omega (arith, gc, uc)), omega (arith, gs, us))
+    record {
+      holds = holds-node m y (a .items) (b .items) (g .holds) leaves;
+      rows = omega (arith, len, gr, ur);
+      stored = stored ∙ ap (λ (q : List ℕ). store q (h .rows) (b .rows)) (g .stored) ∙ ap (λ (q : ℕ). store (store (f .table) (f .from .rows) (a .rows)) q (b .rows)) gr ∙ sym (store-append (f .table) (f .from .rows) (a .rows) (b .rows));
+      counted = counted-node y (omega (arith, gc, uc));
+      spares = omega (arith, gs, us);
+    }
   where
     counted-node : (y : Tally) → f .from .rows + (countOf y + 1) ≤ z .rows → f .from .rows + countOf (withNode y m) ≤ z .rows
     counted-node bare q = q
     counted-node (lone a b c) q = q
     counted-node (many a b c x) q = q
 
+pub adds-phrase : {f : Phrase} {ks : List Left} {h : Here} {t : List ℕ} {y : Tally} {v k n j : ℕ} {d : Counts} {m : Node} {z : Here} {t′ : List ℕ} (g : Going f ks h t y v k) (u : Whole (next-phrase f d n h t) j m z t′) → Added f k h t y (g .draft) (u .draft) m z t′ j
+adds-phrase g u = adds g (u .leaves) (u .rows) (u .stored) (u .counted) (u .spares)
+
+-- so the phrase goes on
+pub goes-added : {f : Phrase} {ks ks′ : List Left} {h : Here} {t : List ℕ} {y : Tally} {v k j : ℕ} {b : Draft} {m : Node} {z : Here} {t′ : List ℕ} (g : Going f ks h t y v k) → Added f k h t y (g .draft) b m z t′ j → Open (source (f .text)) language (f .counts) same (f .kind) (f .from .place) ks′ (z .place) (with-phrase b (g .draft)) → Stands (f .text) z → Going f ks′ z t′ (withNode y m) v (k + j)
+goes-added {b = b} g x o s = record { draft = with-phrase b (g .draft); opened = o; stands = s; holds = x .holds; part = g .part; rows = x .rows; stored = x .stored; began = g .began; counted = x .counted; spares = x .spares }
+
 pub reads-one : {f : Phrase} {d : Counts} {ks : List Left} {h : Here} {t : List ℕ} {y : Tally} {v k : ℕ} {ss : List Symbol} {o : Scope} {n j : ℕ} {d′ : Counts} {m : Node} {h′ : Here} {t′ : List ℕ} → Going f (at d (phrase o n ∷ ss) ∷ ks) h t y v k → one-of n rest-kinds ≡ false → inside o d ≡ d′ → Whole (next-phrase f d′ n h t) j m h′ t′ → Going f (at d ss ∷ ks) h′ t′ (withNode y m) v (k + j)
-reads-one {f} g r e u = let x = adds g u in record { draft = with-phrase (u .draft) (g .draft); opened = reads (source (f .text)) language r (read-in (f .text) e (u .read)) (g .opened); stands = u .stands; holds = x .0; part = g .part; rows = x .1; stored = x .2; began = g .began; counted = x .3; spares = x .4 }
+reads-one {f} g r e u = goes-added g (adds-phrase g u) (reads (source (f .text)) language r (read-in (f .text) e (u .read)) (g .opened)) (u .stands)
 
 pub kept-length : {f : Phrase} {ks : List Left} {h : Here} {t : List ℕ} {y : Tally} {v k : ℕ} → Going f ks h t y v k → length t ≡ length (f .table)
 kept-length {f} g = ap length (g .stored) ∙ store-length (f .table) (f .from .rows) (g .draft .rows)

@@ -1,7 +1,7 @@
 -- A left side, which may be a path; and a row that words stand round, which widen no span.
-use mathlib.Core.Path.{_≡_, refl, sym, ap, subst, _∙_}
+use mathlib.Core.Path.{_≡_, refl, ap, subst, _∙_}
 use mathlib.Core.List.{List, [], _∷_, _++_, append-nil}
-use mathlib.Core.Bool.{Bool, true, false, not, _&&_}
+use mathlib.Core.Bool.{Bool, true, false, not}
 use mathlib.Core.Option.{Option}
 use mathlib.Core.Logic.{_≢_}
 use Prim.Native.Nat.{ℕ, _+_, _*_, _≤_}
@@ -18,19 +18,19 @@ use Rattle.grammar.specs.Runs.{may}
 use Rattle.grammar.specs.Rows.{Item, own, count, Draft, children-of}
 use Rattle.grammar.specs.Rows as grammar
 use Rattle.grammar.specs.Refusals.{left, want, said}
-use Rattle.grammar.proofs.Bools.{F→eq, and-l}
-use Rattle.grammar.proofs.Frame.{no-text, with-own}
+use Rattle.grammar.proofs.Bools.{F→eq}
+use Rattle.grammar.proofs.Frame.{with-own}
 use Rattle.grammar.proofs.Summary.{sum, sum-of}
-use Rattle.grammar.proofs.Open.{Left, Open, with-phrase, finish, pop, take, reads, wants, forks, signed, row-left, path-left}
+use Rattle.grammar.proofs.Open.{Left, Open, with-phrase, finish, pop, reads, wants, forks, signed, row-left, path-left}
 use Rattle.answers.specs.Source.{source}
 use Rattle.parser.specs.declared.Here.{Here}
 use Rattle.parser.specs.declared.Node.{Node}
 use Rattle.parser.specs.Places.{passed, unusedAt, refusalAt}
 use Rattle.parser.specs.Going.{language, tokenOf, Stands, store, Tally, many, withNode, Phrase, Going, Whole, Stopped}
-use Rattle.parser.proofs.Standing.{solid, solid-word, peeks, is-token, goes-past, says, lacking}
+use Rattle.parser.proofs.Standing.{solid, solid-word, peeks, is-token, says, lacking}
 use Rattle.parser.proofs.Tables.{store-length}
 use Rattle.parser.proofs.Tallies.{Leaves, no-children, children-append, children-twice, leaves-first}
-use Rattle.parser.proofs.Going.{at, next-phrase, kept-length, read-in, adds}
+use Rattle.parser.proofs.Going.{at, next-phrase, kept-length, read-in, goes-by, adds-phrase, goes-added}
 
 -- a phrase is a path exactly if its row has kind 2
 is-path-by : {f : Phrase} {k : ℕ} {m : Node} {h : Here} {t : List ℕ} (u : Whole f k m h t) → language .is-path (u .read .parts) ≡ eqb (m .kind) 2
@@ -45,20 +45,8 @@ module _ {f : Phrase} {d : Counts} {ks : List Left} {h : Here} {t : List ℕ} {y
   -- what the phrase is when the rest of it is opened again
   side : {symbols : List Symbol} → one-of n rest-kinds ≡ false → T (may (source (f .text)) language (language .is-path (u .read .parts)) (peek (source (f .text)) language (z .place))) → ite (language .is-path (u .read .parts)) (phrase same n₁ ∷ ss) ss ≡ symbols → Going f (at d symbols ∷ ks) z t′ (withNode y m) v (k + j)
   side {symbols} r p e =
-      let x = adds g u in
       let b : Draft = with-phrase (u .draft) (g .draft) in
-      record {
-        draft = b;
-        opened = subst (λ (q : List Symbol). Open (source (f .text)) language (f .counts) same (f .kind) (f .from .place) (at d q ∷ ks) (z .place) b) e (forks (source (f .text)) language r (u .read) p (g .opened));
-        stands = u .stands;
-        holds = x .0;
-        part = g .part;
-        rows = x .1;
-        stored = x .2;
-        began = g .began;
-        counted = x .3;
-        spares = x .4;
-      }
+      goes-added g (adds-phrase g u) (subst (λ (q : List Symbol). Open (source (f .text)) language (f .counts) same (f .kind) (f .from .place) (at d q ∷ ks) (z .place) b) e (forks (source (f .text)) language r (u .read) p (g .opened))) (u .stands)
 
   pub side-path : one-of n rest-kinds ≡ false → m .kind ≡ 2 → Going f (at d (phrase same n₁ ∷ ss) ∷ ks) z t′ (withNode y m) v (k + j)
   side-path r e =
@@ -107,7 +95,7 @@ pub record Around (f : Phrase) (ks : List Left) (h : Here) (t : List ℕ) (m : N
 module _ {f : Phrase} {d : Counts} {ks : List Left} {h : Here} {t : List ℕ} where
   pub encloses : {ss : List Symbol} {o : Scope} {n j k a e v : ℕ} {w : Option ℕ} {d′ : Counts} {m : Node} {z : Here} {t′ : List ℕ} → Going f (at d (phrase o n ∷ ss) ∷ ks) h t (many a e 0 w) v k → one-of n rest-kinds ≡ false → inside o d ≡ d′ → Whole (next-phrase f d′ n h t) j m z t′ → Around f (at d ss ∷ ks) z t′ m (k + j)
   encloses {m = m} g r e u =
-      let x = adds g u in
+      let x = adds-phrase g u in
       let xs : List Item = g .draft .items in
       let none-yet : children-of xs ≡ [] = no-children xs (empty xs (g .holds)) in
       let both = children-append xs (children-of (u .draft .items)) in
@@ -116,10 +104,10 @@ module _ {f : Phrase} {d : Counts} {ks : List Left} {h : Here} {t : List ℕ} wh
         opened = reads (source (f .text)) language r (read-in (f .text) e (u .read)) (g .opened);
         stands = u .stands;
         leaves = (u .leaves .0, both ∙ ap (λ (q : List Item). q ++ children-of (children-of (u .draft .items))) none-yet ∙ children-twice (u .draft .items) ∙ u .leaves .1, u .leaves .2, u .leaves .3, u .leaves .4);
-        rows = x .1;
-        stored = x .2;
-        counted = let c = x .3 in omega (arith, c);
-        spares = x .4;
+        rows = x .rows;
+        stored = x .stored;
+        counted = let c = x .counted in omega (arith, c);
+        spares = x .spares;
       }
     where
       empty : (xs : List Item) {a e : ℕ} {w : Option ℕ} → sum-of xs ≡ sum a e 0 w → count xs ≡ 0
@@ -128,20 +116,16 @@ module _ {f : Phrase} {d : Counts} {ks : List Left} {h : Here} {t : List ℕ} wh
 
   pub encloses-word : {ss : List Symbol} {q : Ask} {w : List ℕ} {k : ℕ} {m : Node} {z : Here} → Around f (at d (token q w ∷ ss) ∷ ks) h t m k → T (solid w) → T (one-of (h .word) w) → T (kept q d (tokenOf (f .text) h)) → z ≡ passed (f .text) h → Around f (at (after q d) ss ∷ ks) z t m (k + 4)
   encloses-word {ss} {q} {w} {k} {m} {z} g o p x e =
-      let s = f .text in
-      let n = solid-word (h .word) w o p in
-      let b = is-token (g .stands) (n .0) (n .1) in
-      let y = goes-past (g .stands) (n .0) (n .1) e in
-      let a = take (source s) language (b .0) (and-l (no-text w) (not (one-of 0 w) && not (one-of 99 w)) o) p x (g .opened) in
-      let r = y .3 in
-      let l = y .2 in
+      let y = goes-by f h (g .opened) (g .stands) o p x e in
+      let r = y .rows in
+      let l = y .next in
       let c = g .counted in
       let u = g .spares in
       record {
-        draft = with-own (tokenOf s h) (g .draft);
-        opened = subst (λ (i : ℕ). Open (source s) language (f .counts) same (f .kind) (f .from .place) (at (after q d) ss ∷ ks) i (with-own (tokenOf s h) (g .draft))) (sym (y .1)) a;
-        stands = y .0;
-        leaves = (g .leaves .0, children-append (g .draft .items) (own (tokenOf s h) ∷ []) ∙ append-nil (children-of (g .draft .items)) ∙ g .leaves .1, g .leaves .2, g .leaves .3, g .leaves .4);
+        draft = with-own (tokenOf (f .text) h) (g .draft);
+        opened = y .opened;
+        stands = y .stands;
+        leaves = (g .leaves .0, children-append (g .draft .items) (own (tokenOf (f .text) h) ∷ []) ∙ append-nil (children-of (g .draft .items)) ∙ g .leaves .1, g .leaves .2, g .leaves .3, g .leaves .4);
         rows = r ∙ g .rows;
         stored = g .stored;
         counted = omega arith;

@@ -50,29 +50,24 @@ sees-at : (s : List ℕ) (place rows : ℕ) → Sees s (hereAt s place rows) ((s
 unfolding hereAt
 sees-at s place rows = sees-of s place rows (stepAt s place) (step-goes s place)
 
-pub here-place : (s : List ℕ) (place rows : ℕ) → (hereAt s place rows) .place ≡ place
+-- whatever stands there
+here-any : (P : Here → Type 0) (s : List ℕ) (place rows : ℕ) → ((w c a e n : ℕ) → P (record { word = w; code = c; place = place; start = a; end = e; next = n; rows = rows })) → P (hereAt s place rows)
 unfolding hereAt
-here-place s place rows = go (stepAt s place)
+here-any P s place rows p = go (stepAt s place)
   where
-    more : (b : Bool) (r : Refusal) → (pick b (over-here (length s) place rows) (wrong-here (length s) place rows r)) .place ≡ place
-    more true r = refl
-    more false r = refl
+    more : (b : Bool) (r : Refusal) → P (pick b (over-here (length s) place rows) (wrong-here (length s) place rows r))
+    more true r = p 0 0 (length s) (length s) (length s + 1)
+    more false r = p 99 (r .number) (r .start) (r .end) (length s + 1)
 
-    go : (k : Step) → (hereOf s place rows k) .place ≡ place
-    go (Taken t w next) = refl
+    go : (k : Step) → P (hereOf s place rows k)
+    go (Taken t w next) = p w (t .code) (t .start) (t .end) (next .at)
     go (Refused r) = more (eqb (r .number) 11) r
+
+pub here-place : (s : List ℕ) (place rows : ℕ) → (hereAt s place rows) .place ≡ place
+here-place s place rows = here-any (λ h. h .place ≡ place) s place rows (λ w c a e n. refl)
 
 pub here-rows : (s : List ℕ) (place rows : ℕ) → (hereAt s place rows) .rows ≡ rows
-unfolding hereAt
-here-rows s place rows = go (stepAt s place)
-  where
-    more : (b : Bool) (r : Refusal) → (pick b (over-here (length s) place rows) (wrong-here (length s) place rows r)) .rows ≡ rows
-    more true r = refl
-    more false r = refl
-
-    go : (k : Step) → (hereOf s place rows k) .rows ≡ rows
-    go (Taken t w next) = refl
-    go (Refused r) = more (eqb (r .number) 11) r
+here-rows s place rows = here-any (λ h. h .rows ≡ rows) s place rows (λ w c a e n. refl)
 
 -- words of tokens that are no pieces of text
 abbrev pub solid : List ℕ → Bool

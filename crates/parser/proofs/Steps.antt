@@ -107,17 +107,6 @@ module _ (s : List ℕ) (h : Here) {r : Read} where
       go true f e = let k = done-is e in (f tt, k .0, sym (k .1))
       go false f e = never (sym e)
 
-  pub closing-refused : (w a c : ℕ) {e : Refusal} → r ≡ closing s h w a c → r ≡ Refused e → (h .word ≢ w) × (unusedAt h ≡ e)
-  unfolding closing
-  closing-refused w a c {e} p q = go (eqb (h .word) w) refl (sym p ∙ q)
-    where
-      no : eqb (h .word) w ≡ false → h .word ≢ w
-      no f g = subst T (ap (λ (x : ℕ). eqb (h .word) x) g ∙ f) (eqb-refl (h .word))
-
-      go : (b : Bool) → eqb (h .word) w ≡ b → pick b (Done (listNode h a c) (passed s h)) (unused h) ≡ Refused e → (h .word ≢ w) × (unusedAt h ≡ e)
-      go true f g = never g
-      go false f g = (no f, refused-is g)
-
 -- the counts behind a token
 small : (n : ℕ) → n < 32 → capped n ≡ suc n
 small n h = sym (bump-more 200 n (omega arith)) ∙ add-one n
@@ -126,10 +115,6 @@ module _ (l : Limits) where
   pub counts-plain : after plain (counts l) ≡ counts (plainly l)
   unfolding after
   counts-plain = refl
-
-  pub counts-closed : after closes-bracket (after opens-bracket (counts l)) ≡ counts (plainly l)
-  unfolding after
-  counts-closed = refl
 
   -- no prefix stands before: nothing to end
   pub counts-same : l .signs ≡ 0 → after plain (counts l) ≡ counts l
@@ -161,11 +146,6 @@ module _ (l : Limits) where
   unfolding after inside
   counts-chain-body c = ap (λ (n : ℕ). record { brackets = l .brackets; prefixes = 0; else-ifs = n; heads = l .heads }) (sym (small (l .chain) c))
 
-  -- the body of a match: a bracket opens behind its head
-  pub counts-arms : l .brackets < 32 → inside body (after opens-bracket (after is-head (counts l))) ≡ counts (opened (unchained l))
-  unfolding after inside
-  counts-arms h = ap (λ (n : ℕ). record { brackets = n; prefixes = 0; else-ifs = 0; heads = l .heads }) (sym (small (l .brackets) h))
-
   pub alike-counts : Alike (counts l) l
   alike-counts = record { brackets = refl; chain = refl; heads = refl }
 
@@ -173,10 +153,6 @@ module _ (l : Limits) where
     pub alike-plain : Alike (after plain d) l
     unfolding after
     alike-plain = record { brackets = g .brackets; chain = g .chain; heads = g .heads }
-
-    pub alike-after : after plain d ≡ counts (plainly l)
-    unfolding after
-    alike-after = ap (λ (n : ℕ). record { brackets = n; prefixes = 0; else-ifs = d .else-ifs; heads = d .heads }) (g .brackets) ∙ ap (λ (n : ℕ). record { brackets = l .brackets; prefixes = 0; else-ifs = n; heads = d .heads }) (g .chain) ∙ ap (λ (n : ℕ). record { brackets = l .brackets; prefixes = 0; else-ifs = l .chain; heads = n }) (g .heads)
 
     pub alike-opened : l .brackets < 32 → after opens-bracket d ≡ counts (opened l)
     unfolding after

@@ -8,7 +8,7 @@ use mathlib.Core.Logic.{_⊎_, inl, inr, _≢_}
 use Prim.Native.Nat.{ℕ}
 use lib.Dec.{T, eqb, eqb→eq}
 use Rattle.grammar.specs.Words.{name, underscore, '=>', '&&', '||', '->', open-brace, close-brace, open-paren, close-paren, open-bracket, close-bracket, ':', semicolon, comma, dot, '=', '?', '!', '-', 'const', 'else', 'for', 'fn', 'if', 'import', 'in', 'let', 'match', 'pkg', 'dep', 'super', 'std', 'test', 'while', names, path-items, literals, assign-signs, compare-signs, sum-signs, product-signs, return-words, filter-words, four-words}
-use Rattle.grammar.specs.Grammar.{is-else-if, Symbol, token, unless, left-side, found, one-of}
+use Rattle.grammar.specs.Grammar.{is-else-if, Symbol, token, unless, left-side, found, one as one-seen, pair, one-of}
 use Rattle.grammar.specs.Table.{word, one, opens, closes, prefix, head, literal, a, behind, nothing, row, literal-row, part, rest-kinds}
 use Rattle.grammar.specs.Kinds.{records, no-records, TREE, DECLARATIONS, DECLARATION, PARAMS, RESULT, TYPED-NAMES, TYPED-NAMES-MORE, TYPED-NAME, NAME, IMPORT, IMPORTED, IMPORTPATH, IMPORTPATH-REST, IMPORTPATH-DOT, IMPORTPATHS, IMPORTPATHS-MORE, PATH-ITEM, PATH, PATH-REST, TYPE, TYPE-MARKS, TYPE-BASE, TYPE-BRACKETS, TYPES, TYPES-MORE, BLOCK, STATEMENTS, STATEMENT, AFTER-FOUR, AFTER-EXPR, LET, LET-TYPE, LITERAL, PARENS, BRACES, BRACES-INSIDE, FIELDS, FIELDS-MORE, FIELD, FIELD-NAME, EXPRS, EXPRS-MORE, FOUR, ELSE, ELSE-PART, ELSE-IF, ARMS, ARM, ARM-BODY, ARM-NEXT, ARM-COMMA, GUARD, PATTERN, VARIANT, VARIANT-NAMES, NAMES, NAMES-MORE, EXPR, RETURNED, ASSIGNED, BINARY, OR-MORE, AND, AND-MORE, COMPARE, COMPARE-MORE, SUM, SUM-MORE, PRODUCT, PRODUCT-MORE, OPERAND, POSTFIX, AFTER-PATH}
 use Rattle.grammar.specs.Language.{roto}
@@ -16,7 +16,7 @@ use Rattle.grammar.specs.Choice.{flag, chosen}
 use Rattle.grammar.specs.Readings.{peek}
 use Rattle.grammar.specs.Runs.{view}
 use Rattle.grammar.proofs.Bools.{and-l, and-r, or-l, or-r, or-cases}
-use Rattle.grammar.proofs.Picked.{picks-on, picks-off, picks-one, picks-pair, one-place, pair-place}
+use Rattle.grammar.proofs.Picked.{picks-on, picks-off, picks-by, one-place, pair-place}
 use Rattle.answers.specs.Source.{source}
 use Rattle.parser.specs.declared.Here.{Here}
 use Rattle.parser.specs.Places.{passed}
@@ -60,9 +60,6 @@ but-for x w u v t m n = elim (of-two x u v (within x w (u ++ v) t m)) [ inl k �
 
 pub plain-first : (x : ℕ) → T (one-of x exprFirsts) → (T (one-of x four-words) → ⊥) → T (one-of x plainFirsts)
 plain-first x = but-for x exprFirsts four-words plainFirsts tt
-
-pub inside-first : (x : ℕ) → T (one-of x statementFirsts) → (T (one-of x names) → ⊥) → T (one-of x insideFirsts)
-inside-first x = but-for x statementFirsts names insideFirsts tt
 
 pub brace-less : (x : ℕ) → T (one-of x exprFirsts) → x ≢ 40 → T (one-of x braceless)
 brace-less x m n = but-for x exprFirsts (open-brace ∷ []) braceless tt m (λ k. n (the-word {x = x} {c = 40} k))
@@ -1095,10 +1092,6 @@ pub rest-expr : (b : Bool) → one-of (EXPR b) rest-kinds ≡ false
 rest-expr true = refl
 rest-expr false = refl
 
-pub rest-returned : (b : Bool) → one-of (RETURNED b) rest-kinds ≡ true
-rest-returned true = refl
-rest-returned false = refl
-
 pub rest-assigned : (b : Bool) → one-of (ASSIGNED b) rest-kinds ≡ true
 rest-assigned true = refl
 rest-assigned false = refl
@@ -1170,12 +1163,12 @@ pub braces-inside-off : Off BRACES-INSIDE none (close-brace ∷ statementFirsts)
 unfolding roto picks-off
 braces-inside-off = record { computed = tt }
 
-inside-pair : T (picks-pair language BRACES-INSIDE (some braces-inside-fields) names)
-unfolding roto picks-pair
+inside-pair : T (picks-by language BRACES-INSIDE (some braces-inside-fields) pair names)
+unfolding roto picks-by
 inside-pair = tt
 
-inside-one : T (picks-one language BRACES-INSIDE (some braces-inside-statements) names)
-unfolding roto picks-one
+inside-one : T (picks-by language BRACES-INSIDE (some braces-inside-statements) one-seen names)
+unfolding roto picks-by
 inside-one = tt
 
 flagged : (c d : ℕ) → T (one-of c names) → d ≡ 46 → T (flag (language .pairs) c d)

@@ -7,7 +7,7 @@ use mathlib.Core.Option.{Option, none}
 use mathlib.Core.Logic.{inl, inr, _≢_}
 use Prim.Native.Nat.{ℕ, zero, suc, _+_, _≤_, _<_}
 use lib.Dec.{T, eqb, eqb→eq, eqb-refl}
-use lib.ListN.{length, length-append}
+use lib.ListN.{length}
 use native.Mathlib.Omega.{arith}
 use Rattle.chars.specs.Chars.{pick}
 use Rattle.tokens.specs.declared.Refusal.{Refusal}
@@ -35,11 +35,11 @@ use Rattle.parser.specs.declared.Read.{Read}
 use Rattle.parser.specs.declared.Read.the-variants.{Done, Refused}
 use Rattle.parser.specs.Places.{passed, later, unused, nodeOf, plainRow, expected}
 use Rattle.parser.specs.Counted.{counts, plain as plainly}
-use Rattle.parser.specs.Going.{language, Stands, store, Tally, bare, many, lone, withNode, countOf, Phrase, Going, Answers}
+use Rattle.parser.specs.Going.{language, Stands, Tally, many, lone, withNode, Phrase, Going, Answers}
 use Rattle.parser.proofs.Standing.{next-small, is-word, the-word}
-use Rattle.parser.proofs.Tables.{store-append, store-length}
-use Rattle.parser.proofs.Tallies.{children-append, children-twice, holds-node}
-use Rattle.parser.proofs.Going.{at, takes, out, last, none-of, parts, writes, read-in, next-phrase, reads-one, ends, refuses-in, whole-of, stopped, fewer, as-many}
+use Rattle.parser.proofs.Tables.{store-length}
+use Rattle.parser.proofs.Tallies.{children-append, children-twice}
+use Rattle.parser.proofs.Going.{at, takes, out, last, none-of, parts, writes, read-in, next-phrase, reads-one, ends, refuses-in, whole-of, stopped, fewer, as-many, adds, goes-added}
 use Rattle.parser.proofs.Picks.{picks-at, picks-else, begins-on, begins-any, into-on, into-off, refuses-off}
 use Rattle.parser.proofs.Steps.{counts-same, expects, misses}
 use Rattle.parser.proofs.Sides.{Around, encloses-word, encloses-out, encloses-ends}
@@ -115,33 +115,7 @@ module _ {f : Phrase} {d : Counts} {ks : List Left} {h : Here} {t : List ℕ} {y
   module _ (w : T (one-of (h .word) names)) {h′ : Here} {t′ : List ℕ} {m : Node} {j : ℕ} where
     -- an arm, and others may follow
     pub arm-more : Going f (at d (a ARMS ∷ []) ∷ ks) h t y v k → Around (next-phrase f d ARM h t) (at d (a ARMS ∷ []) ∷ []) h′ t′ m j → Going f (at d (a ARMS ∷ []) ∷ ks) h′ t′ (withNode y m) v (k + j)
-    arm-more g u =
-        let x : Draft = g .draft in
-        let b : Draft = u .draft in
-        let len : length (x .rows ++ b .rows) ≡ length (x .rows) + length (b .rows) = length-append (x .rows) (b .rows) in
-        let gr = g .rows in
-        let ur = u .rows in
-        let gc = g .counted in
-        let uc = u .counted in
-        let gs = g .spares in
-        let us = u .spares in
-        record {
-          draft = with-phrase b x;
-          opened = follows (source (f .text)) language refl refl (picks-at (f .text) (g .stands) arms-on w) (u .opened) (g .opened);
-          stands = u .stands;
-          holds = holds-node m y (x .items) (b .items) (g .holds) (u .leaves);
-          part = g .part;
-          rows = omega (arith, len, gr, ur);
-          stored = u .stored ∙ ap (λ (q : List ℕ). store q (h .rows) (b .rows)) (g .stored) ∙ ap (λ (q : ℕ). store (store (f .table) (f .from .rows) (x .rows)) q (b .rows)) gr ∙ sym (store-append (f .table) (f .from .rows) (x .rows) (b .rows));
-          began = g .began;
-          counted = counted-node y (omega (arith, gc, uc));
-          spares = omega (arith, gs, us);
-        }
-      where
-        counted-node : (y : Tally) → f .from .rows + (countOf y + 1) ≤ h′ .rows → f .from .rows + countOf (withNode y m) ≤ h′ .rows
-        counted-node bare q = q
-        counted-node (lone a b c) q = q
-        counted-node (many a b c x) q = q
+    arm-more g u = goes-added g (adds {b = u .draft} {m = m} g (u .leaves) (u .rows) (u .stored) (u .counted) (u .spares)) (follows (source (f .text)) language refl refl (picks-at (f .text) (g .stands) arms-on w) (u .opened) (g .opened)) (u .stands)
 
     -- an arm, and none may follow
     pub arm-last : {ss : List Symbol} → Going f (at d (a ARMS ∷ ss) ∷ ks) h t y v k → Around (next-phrase f d ARM h t) [] h′ t′ m j → Going f (at d ss ∷ ks) h′ t′ (withNode y m) v (k + j)

@@ -18,7 +18,7 @@ use Rattle.rows.specs.Rows.{putRow}
 use Rattle.grammar.specs.Grammar.{body}
 use Rattle.grammar.specs.Limits.{Counts, inside}
 use Rattle.grammar.specs.Table.{a, behind, row}
-use Rattle.grammar.specs.Kinds.{no-records, BLOCK, ELSE, ELSE-PART, ELSE-IF, EXPR}
+use Rattle.grammar.specs.Kinds.{ELSE, ELSE-PART, ELSE-IF}
 use Rattle.parser.specs.declared.Here.{Here}
 use Rattle.parser.specs.declared.Limits.{Limits}
 use Rattle.parser.specs.declared.Node.{Node}
@@ -31,7 +31,7 @@ use Rattle.parser.proofs.Standing.{is-word}
 use Rattle.parser.proofs.Going.{at, out, stopped}
 use Rattle.parser.proofs.Laws.{bump-more}
 use Rattle.parser.proofs.Picks.{into-on}
-use Rattle.promises.specs.Promises.{the, Partly, Chained, Tested, Elsed, linked, overRead, overTable}
+use Rattle.promises.specs.Promises.{the, Partly, Headed, afterIf, Tested, Elsed, linked, overRead, overTable}
 use Rattle.promises.proofs.Alternatives.{elses-if-on}
 use Rattle.promises.proofs.Answered.{finished, not-both}
 use Rattle.promises.proofs.Heads.{Head, reads-it, refuses-it, else-none, else-word, else-if-long, else-if-deep, else-if-on, under-past}
@@ -42,7 +42,7 @@ use Rattle.promises.proofs.Overs.{Over, over-none, over-refused, over-e
 pub record Linked (s : List ℕ) (f₀ : Phrase) (l : Limits) (h : Here) (t : List ℕ) (start : ℕ) (starts details : List ℕ) (n : ℕ) : Type 0 where
   pub inner : Phrase
   pub text : inner .text ≡ s
-  pub head : Head inner l (a (EXPR no-records) ∷ behind BLOCK ∷ behind ELSE ∷ row 28 ∷ []) h t start 0
+  pub head : Head inner l afterIf h t start 0
   pub over : Over f₀ inner starts details 28 3 n
 
 -- past the `if` behind an `else`, by the tests that were made
@@ -80,7 +80,7 @@ pub record Links (s : List ℕ) (l₀ : Limits) (h₀ : Here) (t₀ : List ℕ) 
   pub bare : length details ≡ 0
   pub further : h₀ .next ≤ h .next
   pub kept : length t ≡ length t₀
-  pub links : (f : Phrase) (d : Counts) (e w : ℕ) → f .text ≡ s → d ≡ counts (headed l₀) → inside body d ≡ counts l₀ → Going f (at d (a (EXPR no-records) ∷ behind BLOCK ∷ behind ELSE ∷ row 28 ∷ []) ∷ []) h₀ t₀ (many x₀ e 0 (some w)) 0 4 → Linked s f l h t x starts details n
+  pub links : (f : Phrase) (d : Counts) (e w : ℕ) → f .text ≡ s → d ≡ counts (headed l₀) → inside body d ≡ counts l₀ → Going f (at d afterIf ∷ []) h₀ t₀ (many x₀ e 0 (some w)) 0 4 → Linked s f l h t x starts details n
 
 pub links-begin : {s : List ℕ} {l : Limits} {h : Here} {t starts details : List ℕ} {x : ℕ} → Stands s h → l .signs ≡ 0 → length starts ≡ 32 → length details ≡ 0 → Links s l h t x l h t x starts details 0
 links-begin g z i j = record { stands = g; unsigned = z; few = omega arith; room = i; bare = j; further = omega arith; kept = refl; links = λ f d e w q u b y. record { inner = f; text = q; head = record { at-counts = d; end = e; sign = w; headed-so = u; body-so = b; going = y }; over = over-none } }
@@ -88,14 +88,14 @@ links-begin g z i j = record { stands = g; unsigned = z; few = omega arith; room
 module _ {s : List ℕ} {l₀ : Limits} {h₀ : Here} {t₀ : List ℕ} {x₀ : ℕ} {l : Limits} {h : Here} {t : List ℕ} {x : ℕ} {starts details : List ℕ} {n : ℕ} (w : Links s l₀ h₀ t₀ x₀ l h t x starts details n) {r₁ : Read} {t₁ : List ℕ} (u₁ : Tested s h t l r₁ t₁) where
   module _ {f : Phrase} (k : Linked s f l h t x starts details n) where
     tested : Partly (k .inner) r₁ t₁ (λ m h′. Going (k .inner) (at (k .head .at-counts) (behind ELSE ∷ row 28 ∷ []) ∷ []) h′ t₁ (many x (m .end) 2 (some (k .head .sign))) 0 6)
-    tested = u₁ (k .inner) (k .head .at-counts) (behind ELSE ∷ row 28 ∷ []) x (k .head .end) (k .head .sign) 4 (k .text) (k .head .headed-so) (k .head .body-so) (k .head .going)
+    tested = u₁ (k .inner) (k .head .at-counts) (behind ELSE ∷ row 28 ∷ []) x (k .head .end) 0 (k .head .sign) 4 (k .text) (k .head .headed-so) (k .head .body-so) (k .head .going)
 
-  pub links-fails : {y : Refusal} → r₁ ≡ Refused y → Chained s h₀ t₀ l₀ x₀ r₁ t₁
+  pub links-fails : {y : Refusal} → r₁ ≡ Refused y → Headed afterIf s h₀ t₀ l₀ x₀ r₁ t₁
   links-fails e₁ f d e v q z b g = let k = w .links f d e v q z b g in over-refused (k .over) (stops-answer (tested k) e₁) e₁
 
   module _ {m₁ : Node} {h₁ : Here} (e₁ : r₁ ≡ Done m₁ h₁) where
     -- the last `if`, without `else`
-    pub links-end : {v : Row} {r₂ r₃ : Read} {t₂ t₃ : List ℕ} → h₁ .word ≢ 63 → v ≡ plainRow 28 x (m₁ .end) 2 → r₂ ≡ Done (nodeOf v) (later h₁) → t₂ ≡ putRow t₁ (h₁ .rows) v → r₃ ≡ overRead starts details 28 3 n r₂ → t₃ ≡ overTable starts details 28 3 n r₂ t₂ → Chained s h₀ t₀ l₀ x₀ r₃ t₃
+    pub links-end : {v : Row} {r₂ r₃ : Read} {t₂ t₃ : List ℕ} → h₁ .word ≢ 63 → v ≡ plainRow 28 x (m₁ .end) 2 → r₂ ≡ Done (nodeOf v) (later h₁) → t₂ ≡ putRow t₁ (h₁ .rows) v → r₃ ≡ overRead starts details 28 3 n r₂ → t₃ ≡ overTable starts details 28 3 n r₂ t₂ → Headed afterIf s h₀ t₀ l₀ x₀ r₃ t₃
     links-end i o p y p′ y′ f d e v q z b g = let k = w .links f d e v q z b g in over-ends (k .over) (else-none (partly-of (tested k) e₁) (omega arith) i o p y) p′ y′
 
     module _ {h₂ : Here} (i : h₁ .word ≡ 63) (p : h₂ ≡ passed s h₁) where
@@ -103,7 +103,7 @@ module _ {s : List ℕ} {l₀ : Limits} {h₀ : Here} {t₀ : List ℕ} {x₀ : 
       behind-else : {f : Phrase} (k : Linked s f l h t x starts details n) → Going (k .inner) (at (counts l) (a ELSE-PART ∷ []) ∷ at (k .head .at-counts) (row 28 ∷ []) ∷ []) h₂ t₁ (many x (h₁ .end) 2 (some (k .head .sign))) 0 10
       behind-else k = else-word (k .head .body-so) (w .unsigned) i (subst (λ (y : List ℕ). h₂ ≡ passed y h₁) (sym (k .text)) p) (partly-of (tested k) e₁)
 
-      pub links-else : {r₂ r₃ : Read} {t₂ t₃ : List ℕ} → Elsed s h₂ t₁ l x r₂ t₂ → r₃ ≡ overRead starts details 28 3 n r₂ → t₃ ≡ overTable starts details 28 3 n r₂ t₂ → Chained s h₀ t₀ l₀ x₀ r₃ t₃
+      pub links-else : {r₂ r₃ : Read} {t₂ t₃ : List ℕ} → Elsed s h₂ t₁ l x r₂ t₂ → r₃ ≡ overRead starts details 28 3 n r₂ → t₃ ≡ overTable starts details 28 3 n r₂ t₂ → Headed afterIf s h₀ t₀ l₀ x₀ r₃ t₃
       links-else u₂ p′ y′ f d e v q z b g = let k = w .links f d e v q z b g in over-ends (k .over) (u₂ (k .inner) (k .head .at-counts) (h₁ .end) (k .head .sign) 6 (k .text) (behind-else k)) p′ y′
 
       -- another `if` there
@@ -122,7 +122,7 @@ module _ {s : List ℕ} {l₀ : Limits} {h₀ : Here} {t₀ : List ℕ} {x₀ : 
           chain-valued m z t₂ t₃ v u o y = finished (out (out (reads-it (k .text) refl u (in-chain k) refl refl))) (omega arith) refl refl o refl y
 
         module _ {r₂ : Read} (p₂ : r₂ ≡ linked s h₂ l) where
-          pub links-long : {y : Refusal} → r₂ ≡ Refused y → Chained s h₀ t₀ l₀ x₀ r₂ t₁
+          pub links-long : {y : Refusal} → r₂ ≡ Refused y → Headed afterIf s h₀ t₀ l₀ x₀ r₂ t₁
           links-long {y} e₂ f d e v q z b g =
               let k = w .links f d e v q z b g in
               let u = linked-fails l g₂ j p₂ t₁ e₂ in

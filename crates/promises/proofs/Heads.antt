@@ -3,19 +3,19 @@ use mathlib.Core.Path.{_≡_, refl, sym, ap, subst, _∙_}
 use mathlib.Core.List.{List, [], _∷_}
 use mathlib.Core.Bool.{false, _&&_}
 use mathlib.Core.Option.{some}
-use mathlib.Core.Logic.{_≢_}
+use mathlib.Core.Logic.{_⊎_, inl, inr, _≢_}
 use Prim.Native.Nat.{ℕ, _+_, _≤_, _<_}
-use lib.Dec.{T, eqb, ltb, lt→ltb, ltb→lt, not-T}
+use lib.Dec.{T, eqb, ltb, lt→ltb, ltb→lt, not-T, eqb→eq}
 use native.Mathlib.Omega.{arith}
 use Rattle.tokens.specs.declared.Refusal.{Refusal}
 use Rattle.rows.specs.declared.Row.{Row}
 use Rattle.rows.specs.Rows.{putRow}
-use Rattle.grammar.specs.Words.{open-brace, close-brace, 'in'}
+use Rattle.grammar.specs.Words.{open-brace, close-brace, 'in', four-words}
 use Rattle.grammar.specs.Grammar.{plain, is-head, is-else-if, opens-bracket, body, Scope, Symbol, phrase, one-of}
 use Rattle.grammar.specs.Limits.{Counts, after, inside, kept}
 use Rattle.grammar.specs.Table.{a, behind, closes, head, word, row, opens, rest-kinds, literal-row}
 use Rattle.grammar.specs.Kinds.{no-records, NAME, BLOCK, FOUR, ELSE, ELSE-PART, ELSE-IF, ARMS, EXPR}
-use Rattle.grammar.proofs.Bools.{and-l, and-r, both}
+use Rattle.grammar.proofs.Bools.{and-l, and-r, both, or-cases}
 use Rattle.grammar.proofs.Open.{Left}
 use Rattle.parser.specs.declared.Here.{Here}
 use Rattle.parser.specs.declared.Limits.{Limits}
@@ -26,13 +26,13 @@ use Rattle.parser.specs.Places.{passed, later, unused, refusalAt, nodeOf, plain
 use Rattle.parser.specs.Counted.{counts, headed, chained, unchained, opened, plain as plainly, Alike}
 use Rattle.parser.specs.Going.{Stands, Tally, bare, many, withNode, rowOver, Phrase, Going, Stopped, Answers}
 use Rattle.parser.proofs.Standing.{solid, past-word, is-word, the-word}
-use Rattle.parser.proofs.Going.{at, takes, out, reads-one, refuses-in, refuses-past, relays, whole-of, stopped-of, stopped, fewer}
+use Rattle.parser.proofs.Going.{at, takes, out, reads-one, refuses-in, refuses-past, whole-of, stopped-of, stopped, fewer}
 use Rattle.parser.proofs.Picks.{On, begins-on, begins-any, into-on, into-off, refuses-off}
-use Rattle.parser.proofs.Steps.{under-done, under-refused, counts-plain, counts-headed, counts-body, counts-chained, counts-chain-body, counts-same, counts-opened, alike-counts, expects, misses, opens-on, opens-off, opening-done}
-use Rattle.promises.specs.Promises.{the, Anyhow, Partly, Chained, Tested, Elsed, Matched}
-use Rattle.promises.proofs.Alternatives.{four-off, else-on, else-off, elses-block-on, elses-off, else-if-any, else-if-is}
-use Rattle.promises.proofs.Answered.{of-text, none-fits, not-first, finished}
-use Rattle.promises.proofs.Partly.{partly, partly-stops}
+use Rattle.parser.proofs.Steps.{expected-done, under-done, under-refused, counts-plain, counts-headed, counts-body, counts-chained, counts-chain-body, counts-same, counts-opened, alike-counts, expects, misses, opens-on, opens-off, opening-done}
+use Rattle.promises.specs.Promises.{the, Anyhow, Partly, Headed, afterMatch, Tested, Elsed, Matched}
+use Rattle.promises.proofs.Alternatives.{four-if-on, four-match-on, four-while-on, four-for-on, else-on, else-off, elses-block-on, elses-off, else-if-any, else-if-is}
+use Rattle.promises.proofs.Answered.{of-text, not-first, finished}
+use Rattle.promises.proofs.Partly.{partly, partly-of, stops-answer, partly-stops}
 
 -- a phrase in it, by the answer of its reader
 module _ {f : Phrase} {s : List ℕ} {d d′ : Counts} {ks : List Left} {h : Here} {t t′ : List ℕ} {y : Tally} {v k : ℕ} {ss : List Symbol} {o : Scope} {n j : ℕ} {r : Read} (q : f .text ≡ s) (e : inside o d ≡ d′) (u : Answers (the s d′ n h t) j r t′) where
@@ -58,6 +58,9 @@ counts-behind {l = l} e p = ap (after plain) e ∙ counts-plain l ∙ ap counts 
 pub under-past : (w n : ℕ) {s : List ℕ} {h : Here} {r : Read} {m : Node} {z : Here} → Stands s h → T (solid (w ∷ [])) → h .word ≡ w → r ≡ under s h n → r ≡ Done m z → Stands s z × (h .next < z .next)
 under-past w n {s} {h} g o e u q = let k = past-word (w ∷ []) g o (is-word e) (under-done s h n u q .1 .here) in (k .0, k .1)
 
+pub expected-past : (w : ℕ) {s : List ℕ} {h : Here} {r : Read} {m : Node} {z : Here} → Stands s h → T (solid (w ∷ [])) → r ≡ expected s h w → r ≡ Done m z → Stands s z × (h .next < z .next)
+expected-past w {s} {h} g o u q = let x = expected-done s h w u q in let k = past-word (w ∷ []) g o (is-word (x .0)) (x .1 .here) in (k .0, k .1)
+
 pub opening-past : (w n : ℕ) {s : List ℕ} {h : Here} {r : Read} {m : Node} {z : Here} → Stands s h → T (solid (w ∷ [])) → r ≡ opening s h w n → r ≡ Done m z → Stands s z × (h .next < z .next)
 opening-past w n {s} {h} g o u q = let x = opening-done s h w n u q in let k = past-word (w ∷ []) g o (is-word (x .0)) (x .2 .here) in (k .0, k .1)
 
@@ -69,9 +72,6 @@ pub record Head (f : Phrase) (l : Limits) (ss : List Symbol) (h : Here) (t : Lis
   pub headed-so : at-counts ≡ counts (headed l)
   pub body-so : inside body at-counts ≡ counts l
   pub going : Going f (at at-counts ss ∷ []) h t (many start end c (some sign)) 0 4
-
-pub head-stands : {f : Phrase} {l : Limits} {ss : List Symbol} {h : Here} {t : List ℕ} {x c : ℕ} → Head f l ss h t x c → Stands (f .text) h × (f .from .next < h .next)
-head-stands b = let c = b .going .counted in let p = b .going .spares in (b .going .stands, omega (arith, c, p))
 
 -- the word of a head: 32 at most are open, or it is refused
 module _ {s : List ℕ} {h : Here} {t : List ℕ} {l l′ : Limits} (g : Stands s h) (p : l′ ≡ unchained l) {r : Read} (u : r ≡ under s h (l′ .heads)) where
@@ -105,25 +105,59 @@ module _ {f : Phrase} {s : List ℕ} {d d′ : Counts} {ss : List Symbol} {h : H
   unfolding inside
   head-expr = reads-it q z u g refl
 
-  head-fails : {y : Refusal} → r ≡ Refused y → Answers f 1 r t′
+  head-expr-stops : {y : Refusal} → r ≡ Refused y → Answers f 1 r t′
   unfolding inside
-  head-fails y = stopped y (refuses-it q z u g y)
+  head-expr-stops y = stopped y (refuses-it q z u g y)
 
--- `expr block` behind an `if`
+-- `expr block`
 module _ {s : List ℕ} {i : Here} {t₀ : List ℕ} {l l′ : Limits} {r₁ : Read} {t₁ : List ℕ} (p : l′ ≡ headed l) (u₁ : Answers (the s (counts l′) (EXPR no-records) i t₀) 1 r₁ t₁) where
   pub test-fails : {y : Refusal} → r₁ ≡ Refused y → Tested s i t₀ l r₁ t₁
   unfolding inside
-  test-fails e₁ f d ss x e w k q z b g = partly-stops e₁ (refuses-it q (z ∙ ap counts (sym p)) u₁ g e₁)
+  test-fails e₁ f d ss x e c w k q z b g = partly-stops e₁ (refuses-it q (z ∙ ap counts (sym p)) u₁ g e₁)
 
   pub test-block : {m₁ : Node} {h₁ : Here} {r₂ : Read} {t₂ : List ℕ} → r₁ ≡ Done m₁ h₁ → Answers (the s (counts l) BLOCK h₁ t₁) 1 r₂ t₂ → Tested s i t₀ l r₂ t₂
-  test-block e₁ u₂ f d ss x e w k q z b g = reads-partly q b u₂ (head-expr q (z ∙ ap counts (sym p)) g u₁ e₁) refl
+  test-block e₁ u₂ f d ss x e c w k q z b g = reads-partly q b u₂ (head-expr q (z ∙ ap counts (sym p)) g u₁ e₁) refl
 
--- an `if` that no `else` stands before, and one that does
-pub head-chained : {f : Phrase} {l : Limits} {h : Here} {t : List ℕ} {start : ℕ} {r : Read} {t′ : List ℕ} → Head f l (a (EXPR no-records) ∷ behind BLOCK ∷ behind ELSE ∷ row 28 ∷ []) h t start 0 → Chained (f .text) h t l start r t′ → Answers f 1 r t′
-head-chained {f} b u = u f (b .at-counts) (b .end) (b .sign) refl (b .headed-so) (b .body-so) (b .going)
+-- from behind the word of a head
+pub head-answers : {f : Phrase} {l : Limits} {ss : List Symbol} {h : Here} {t : List ℕ} {start : ℕ} {r : Read} {t′ : List ℕ} → Head f l ss h t start 0 → Headed ss (f .text) h t l start r t′ → Answers f 1 r t′
+head-answers {f} b u = u f (b .at-counts) (b .end) (b .sign) refl (b .headed-so) (b .body-so) (b .going)
 
-pub four-fails : {s : List ℕ} {l : Limits} {h : Here} {t : List ℕ} {r : Read} → Stands s h → h .word ≢ 69 → h .word ≢ 81 → h .word ≢ 67 → h .word ≢ 73 → r ≡ unused h → Answers (the s (counts l) FOUR h t) 1 r t
-four-fails g i w f m e = none-fits four-off g (not-first _ 69 (73 ∷ 81 ∷ 67 ∷ []) i (not-first _ 73 (81 ∷ 67 ∷ []) m (not-first _ 81 (67 ∷ []) w (not-first _ 67 [] f (λ x. x))))) e
+pub heads : {ss : List Symbol} {s : List ℕ} {h : Here} {t : List ℕ} {l : Limits} {start : ℕ} {r : Read} {t′ : List ℕ} → ((f : Phrase) → f .text ≡ s → Head f l ss h t start 0 → Answers f 1 r t′) → Headed ss s h t l start r t′
+heads k f d e w q z b g = k f q (record { at-counts = d; end = e; sign = w; headed-so = z; body-so = b; going = g })
+
+-- one of the four words
+which-four : (x : ℕ) → T (one-of x four-words) → (x ≡ 69) ⊎ ((x ≡ 73) ⊎ ((x ≡ 81) ⊎ (x ≡ 67)))
+which-four x m = elim (or-cases (eqb x 69) (one-of x (73 ∷ 81 ∷ 67 ∷ [])) m) [
+  | inl e ↦ inl (eqb→eq x 69 e)
+  | inr m ↦ inr (elim (or-cases (eqb x 73) (one-of x (81 ∷ 67 ∷ [])) m) [
+    | inl e ↦ inl (eqb→eq x 73 e)
+    | inr m ↦ inr (elim (or-cases (eqb x 81) (one-of x (67 ∷ [])) m) [
+      | inl e ↦ inl (eqb→eq x 81 e)
+      | inr m ↦ inr (the-word m)
+    ])
+  ])
+]
+
+pub last-four : (x : ℕ) → T (one-of x four-words) → x ≢ 69 → x ≢ 81 → x ≢ 67 → x ≡ 73
+last-four x m i w f = go (which-four x m)
+  where
+    go : (x ≡ 69) ⊎ ((x ≡ 73) ⊎ ((x ≡ 81) ⊎ (x ≡ 67))) → x ≡ 73
+    go (inl e) = absurd (i e)
+    go (inr (inl e)) = e
+    go (inr (inr (inl e))) = absurd (w e)
+    go (inr (inr (inr e))) = absurd (f e)
+
+pub four-deep : {s : List ℕ} {h : Here} {t : List ℕ} {l l′ : Limits} {r : Read} {x : Refusal} → Stands s h → T (one-of (h .word) four-words) → l′ ≡ unchained l → r ≡ under s h (l′ .heads) → r ≡ Refused x → Answers (the s (counts l) FOUR h t) 1 r t
+four-deep {s} {h} {t} {l} {r = r} g m p u q = go (which-four (h .word) m)
+  where
+    go : (h .word ≡ 69) ⊎ ((h .word ≡ 73) ⊎ ((h .word ≡ 81) ⊎ (h .word ≡ 67))) → Answers (the s (counts l) FOUR h t) 1 r t
+    go (inl e) = head-off g p u four-if-on tt e q
+    go (inr (inl e)) = head-off g p u four-match-on tt e q
+    go (inr (inr (inl e))) = head-off g p u four-while-on tt e q
+    go (inr (inr (inr e))) = head-off g p u four-for-on tt e q
+
+pub four-past : (n : ℕ) {s : List ℕ} {h : Here} {r : Read} {m : Node} {z : Here} → Stands s h → T (one-of (h .word) four-words) → r ≡ under s h n → r ≡ Done m z → Stands s z × (h .next < z .next)
+four-past n {s} {h} g o u q = let k = past-word four-words g tt o (under-done s h n u q .1 .here) in (k .0, k .1)
 
 module _ {s : List ℕ} {h : Here} {t : List ℕ} {l : Limits} (g : Stands s h) (e : h .word ≡ 69) where
   else-if-begins : Going (the s (counts l) ELSE-IF h t) (at (counts l) else-if-is ∷ []) h t bare 0 0
@@ -153,29 +187,33 @@ module _ {s : List ℕ} {h : Here} {t : List ℕ} {l : Limits} (g : Stands s h) 
           going = subst (λ (x : Node). Going (the s (counts l) ELSE-IF h t) (at (after is-else-if (counts l)) (a (EXPR no-records) ∷ behind BLOCK ∷ behind ELSE ∷ row 28 ∷ []) ∷ []) i t (many (x .start) (h .end) 0 (some (h .word))) 0 4) (k .1 .node) (takes else-if-begins tt (is-word e) (both (ltb (l .heads) 32) (ltb (l .chain) 32) (lt→ltb (l .heads) 32 (k .0)) (lt→ltb (l .chain) 32 c)) (k .1 .here));
         }
 
--- behind a head: its expr, its block, its row
-module _ {f : Phrase} {l l′ : Limits} {h : Here} {t : List ℕ} {x c : ℕ} {r₁ : Read} {t₁ : List ℕ} (p : l′ ≡ headed l) (u₁ : Answers (the (f .text) (counts l′) (EXPR no-records) h t) 1 r₁ t₁) where
-  pub head-expr-fails : {ss : List Symbol} {y : Refusal} → Head f l (a (EXPR no-records) ∷ ss) h t x c → r₁ ≡ Refused y → Answers f 1 r₁ t₁
-  head-expr-fails b = head-fails refl (b .headed-so ∙ ap counts (sym p)) (b .going) u₁
+-- its expr and block, and its row
+module _ {f : Phrase} {s : List ℕ} {l : Limits} {n : ℕ} {h : Here} {t : List ℕ} {x c : ℕ} (q : f .text ≡ s) (b : Head f l (a (EXPR no-records) ∷ behind BLOCK ∷ row n ∷ []) h t x c) {r : Read} {t₁ : List ℕ} (u : Tested s h t l r t₁) where
+  tested-head : Partly f r t₁ (λ m h′. Going f (at (b .at-counts) (row n ∷ []) ∷ []) h′ t₁ (many x (m .end) (c + 1 + 1) (some (b .sign))) 0 6)
+  tested-head = u f (b .at-counts) (row n ∷ []) x (b .end) c (b .sign) 4 q (b .headed-so) (b .body-so) (b .going)
 
-  module _ {n : ℕ} (b : Head f l (a (EXPR no-records) ∷ behind BLOCK ∷ row n ∷ []) h t x c) {m₁ : Node} {h₁ : Here} (e₁ : r₁ ≡ Done m₁ h₁) {r₂ : Read} {t₂ : List ℕ} (u₂ : Answers (the (f .text) (counts l) BLOCK h₁ t₁) 1 r₂ t₂) where
-    pub head-body-fails : {y : Refusal} → r₂ ≡ Refused y → Answers f 1 r₂ t₂
-    head-body-fails e₂ = stopped e₂ (refuses-it refl (b .body-so) u₂ (head-expr refl (b .headed-so ∙ ap counts (sym p)) (b .going) u₁ e₁) e₂)
+  pub head-fails : {y : Refusal} → r ≡ Refused y → Answers f 1 r t₁
+  head-fails e = stops-answer tested-head e
 
-    pub head-ends : {m₂ : Node} {h₂ : Here} {v : Row} {r : Read} {t₃ : List ℕ} → r₂ ≡ Done m₂ h₂ → eqb n 0 ≡ false → eqb n literal-row ≡ false → v ≡ rowOver n (many x (m₂ .end) (c + 1 + 1) (some (b .sign))) 0 → r ≡ Done (nodeOf v) (later h₂) → t₃ ≡ putRow t₂ (h₂ .rows) v → Answers f 1 r t₃
-    head-ends e₂ = finished (reads-it refl (b .body-so) u₂ (head-expr refl (b .headed-so ∙ ap counts (sym p)) (b .going) u₁ e₁) refl e₂) (omega arith)
+  pub head-ends : {m : Node} {h₁ : Here} {v : Row} {r₁ : Read} {t₂ : List ℕ} → r ≡ Done m h₁ → eqb n 0 ≡ false → eqb n literal-row ≡ false → v ≡ rowOver n (many x (m .end) (c + 1 + 1) (some (b .sign))) 0 → r₁ ≡ Done (nodeOf v) (later h₁) → t₂ ≡ putRow t₁ (h₁ .rows) v → Answers f 1 r₁ t₂
+  head-ends e = finished (partly-of tested-head e) (omega arith)
 
 -- `for name in`
-module _ {f : Phrase} {l : Limits} {ss : List Symbol} {h : Here} {t : List ℕ} {x c : ℕ} (b : Head f l (a NAME ∷ word 'in' ∷ ss) h t x c) {r₁ : Read} {t₁ : List ℕ} (u₁ : Anyhow (f .text) NAME h t 3 r₁ t₁) where
+module _ {f : Phrase} {s : List ℕ} {l : Limits} {ss : List Symbol} {h : Here} {t : List ℕ} {x c : ℕ} (q : f .text ≡ s) (b : Head f l (a NAME ∷ word 'in' ∷ ss) h t x c) {r₁ : Read} {t₁ : List ℕ} (u₁ : Anyhow s NAME h t 3 r₁ t₁) where
   pub for-name-fails : {y : Refusal} → r₁ ≡ Refused y → Answers f 1 r₁ t₁
-  for-name-fails e₁ = relays (b .going) refl (u₁ _) e₁
+  unfolding inside
+  for-name-fails e₁ = stopped e₁ (refuses-it q refl (u₁ (b .at-counts)) (b .going) e₁)
 
-  module _ {m₁ : Node} {h₁ : Here} (e₁ : r₁ ≡ Done m₁ h₁) {r₂ : Read} (u₂ : r₂ ≡ expected (f .text) h₁ 71) where
+  module _ {m₁ : Node} {h₁ : Here} (e₁ : r₁ ≡ Done m₁ h₁) {r₂ : Read} (u₂ : r₂ ≡ expected s h₁ 71) where
     for-in : Going f (at (b .at-counts) (word 'in' ∷ ss) ∷ []) h₁ t₁ (many x (m₁ .end) (c + 1) (some (b .sign))) 0 7
-    for-in = reads-one (b .going) refl refl (whole-of (u₁ _) e₁)
+    unfolding inside
+    for-in = reads-it q refl (u₁ (b .at-counts)) (b .going) refl e₁
+
+    expects-in : r₂ ≡ expected (f .text) h₁ 71
+    expects-in = subst (λ (y : List ℕ). r₂ ≡ expected y h₁ 71) (sym q) u₂
 
     pub for-in-fails : {y : Refusal} → r₂ ≡ Refused y → Answers f 1 r₂ t₁
-    for-in-fails e₂ = stopped e₂ (misses 71 for-in u₂ e₂)
+    for-in-fails e₂ = stopped e₂ (misses 71 for-in expects-in e₂)
 
     pub for-on : {m₂ : Node} {h₂ : Here} → l .signs ≡ 0 → r₂ ≡ Done m₂ h₂ → Head f l ss h₂ t₁ x (c + 1)
     unfolding after inside
@@ -185,23 +223,30 @@ module _ {f : Phrase} {l : Limits} {ss : List Symbol} {h : Here} {t : List ℕ} 
       sign = b .sign;
       headed-so = ap (after plain) (b .headed-so);
       body-so = ap (after plain) (b .body-so) ∙ counts-same l o;
-      going = fewer 4 (omega arith) (expects 71 for-in tt u₂ e₂);
+      going = fewer 4 (omega arith) (expects 71 for-in tt expects-in e₂);
     }
 
 -- `match expr {`
-module _ {f : Phrase} {l l′ : Limits} {h : Here} {t : List ℕ} {x : ℕ} {r₁ : Read} {t₁ : List ℕ} (p : l′ ≡ headed l) (b : Head f l (a (EXPR no-records) ∷ opens open-brace ∷ behind ARMS ∷ closes close-brace ∷ row 31 ∷ []) h t x 0) (u₁ : Answers (the (f .text) (counts l′) (EXPR no-records) h t) 1 r₁ t₁) {m₁ : Node} {h₁ : Here} (e₁ : r₁ ≡ Done m₁ h₁) {r₂ : Read} (u₂ : r₂ ≡ opening (f .text) h₁ 40 (l .brackets)) where
-  matches : Going f (at (b .at-counts) (opens open-brace ∷ behind ARMS ∷ closes close-brace ∷ row 31 ∷ []) ∷ []) h₁ t₁ (many x (m₁ .end) 1 (some (b .sign))) 0 5
-  matches = head-expr refl (b .headed-so ∙ ap counts (sym p)) (b .going) u₁ e₁
+module _ {f : Phrase} {s : List ℕ} {l l′ : Limits} {h : Here} {t : List ℕ} {x : ℕ} {r₁ : Read} {t₁ : List ℕ} (q : f .text ≡ s) (p : l′ ≡ headed l) (b : Head f l afterMatch h t x 0) (u₁ : Answers (the s (counts l′) (EXPR no-records) h t) 1 r₁ t₁) where
+  pub match-expr-fails : {y : Refusal} → r₁ ≡ Refused y → Answers f 1 r₁ t₁
+  match-expr-fails e₁ = head-expr-stops q (b .headed-so ∙ ap counts (sym p)) (b .going) u₁ e₁
 
-  match-alike : Alike (b .at-counts) (headed l)
-  match-alike = subst (λ (d : Counts). Alike d (headed l)) (sym (b .headed-so)) (alike-counts (headed l))
+  module _ {m₁ : Node} {h₁ : Here} (e₁ : r₁ ≡ Done m₁ h₁) {r₂ : Read} (u₂ : r₂ ≡ opening s h₁ 40 (l .brackets)) where
+    matches : Going f (at (b .at-counts) (opens open-brace ∷ behind ARMS ∷ closes close-brace ∷ row 31 ∷ []) ∷ []) h₁ t₁ (many x (m₁ .end) 1 (some (b .sign))) 0 5
+    matches = head-expr q (b .headed-so ∙ ap counts (sym p)) (b .going) u₁ e₁
 
-  pub match-fails : {y : Refusal} → r₂ ≡ Refused y → Answers f 1 r₂ t₁
-  match-fails e₂ = stopped e₂ (opens-off 40 (headed l) matches tt match-alike u₂ e₂)
+    match-alike : Alike (b .at-counts) (headed l)
+    match-alike = subst (λ (d : Counts). Alike d (headed l)) (sym (b .headed-so)) (alike-counts (headed l))
 
-  pub match-ends : {l₃ : Limits} {m₂ : Node} {h₂ : Here} {r : Read} {t₂ : List ℕ} → r₂ ≡ Done m₂ h₂ → l₃ ≡ opened l → Matched (f .text) h₂ t₁ l₃ x r t₂ → Answers f 1 r t₂
-  unfolding after inside
-  match-ends e₂ o v = v f (after opens-bracket (b .at-counts)) _ _ refl (ap (after opens-bracket) (b .body-so) ∙ counts-opened l (opening-done (f .text) h₁ 40 (l .brackets) u₂ e₂ .1) ∙ ap counts (sym o)) (fewer 1 (omega arith) (opens-on 40 (headed l) matches tt match-alike u₂ e₂))
+    opens-arms : r₂ ≡ opening (f .text) h₁ 40 (l .brackets)
+    opens-arms = subst (λ (y : List ℕ). r₂ ≡ opening y h₁ 40 (l .brackets)) (sym q) u₂
+
+    pub match-fails : {y : Refusal} → r₂ ≡ Refused y → Answers f 1 r₂ t₁
+    match-fails e₂ = stopped e₂ (opens-off 40 (headed l) matches tt match-alike opens-arms e₂)
+
+    pub match-ends : {l₃ : Limits} {m₂ : Node} {h₂ : Here} {r : Read} {t₂ : List ℕ} → r₂ ≡ Done m₂ h₂ → l₃ ≡ opened l → Matched s h₂ t₁ l₃ x r t₂ → Answers f 1 r t₂
+    unfolding after inside
+    match-ends e₂ o v = v f (after opens-bracket (b .at-counts)) _ _ q (ap (after opens-bracket) (b .body-so) ∙ counts-opened l (opening-done s h₁ 40 (l .brackets) u₂ e₂ .1) ∙ ap counts (sym o)) (fewer 1 (omega arith) (opens-on 40 (headed l) matches tt match-alike opens-arms e₂))
 
 -- no `else`: the `if` ends
 pub else-none : {f : Phrase} {d : Counts} {h : Here} {t : List ℕ} {x e w k : ℕ} {v : Row} {r : Read} {t′ : List ℕ} → Going f (at d (behind ELSE ∷ row 28 ∷ []) ∷ []) h t (many x e 2 (some w)) 0 k → 2 ≤ k → h .word ≢ 63 → v ≡ plainRow 28 x e 2 → r ≡ Done (nodeOf v) (later h) → t′ ≡ putRow t (h .rows) v → Answers f 1 r t′

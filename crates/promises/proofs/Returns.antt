@@ -4,8 +4,8 @@ use mathlib.Core.List.{List, [], _∷_}
 use mathlib.Core.Bool.{Bool, true, false}
 use mathlib.Core.Option.{some}
 use mathlib.Core.Logic.{_≢_}
-use Prim.Native.Nat.{ℕ, _+_, _≤_, _<_}
-use lib.Dec.{T, T-not}
+use Prim.Native.Nat.{ℕ, suc, _+_, _≤_, _<_}
+use lib.Dec.{eqb, T, T-not}
 use lib.ListN.{length, set, length-set}
 use native.Mathlib.Omega.{arith}
 use native.Mathlib.Numerals.{add-one}
@@ -13,11 +13,11 @@ use Rattle.tokens.specs.declared.Refusal.{Refusal}
 use Rattle.rows.specs.declared.Row.{Row}
 use Rattle.rows.specs.Rows.{putRow}
 use Rattle.grammar.specs.Words.{return-words}
-use Rattle.grammar.specs.Grammar.{one-of}
+use Rattle.grammar.specs.Grammar.{one-of, ite}
 use Rattle.grammar.specs.Limits.{inside}
 use Rattle.grammar.specs.Table.{a, row}
 use Rattle.grammar.specs.Kinds.{EXPR, RETURNED}
-use Rattle.grammar.specs.Rows.{detail-for}
+use Rattle.grammar.specs.Rows.{place-in, detail-for}
 use Rattle.parser.specs.declared.Here.{Here}
 use Rattle.parser.specs.declared.Limits.{Limits}
 use Rattle.parser.specs.declared.Node.{Node}
@@ -63,6 +63,19 @@ return-there {z = z} g e m = is-return (z .word) e m
 
 pub return-elsewhere : {s : List ℕ} {z : Here} {n : ℕ} → Stands s z → n ≡ detail-for 27 (z .word) → n ≡ 0 → T (one-of (z .word) return-words) → ⊥
 return-elsewhere {z = z} g e m = no-return (z .word) e m
+
+-- its detail is small
+placed-small : (c : ℕ) (w : List ℕ) → place-in c w ≤ length w
+placed-small c [] = omega arith
+placed-small c (x ∷ xs) = go (eqb c x) (eqb (place-in c xs) 0) (place-in c xs) (placed-small c xs)
+  where
+    go : (b z : Bool) (k : ℕ) → k ≤ length xs → ite b 1 (ite z 0 (suc k)) ≤ suc (length xs)
+    go true z k l = omega arith
+    go false true k l = omega arith
+    go false false k l = omega (arith, l)
+
+pub return-small : {s : List ℕ} {z : Here} {n : ℕ} → Stands s z → n ≡ detail-for 27 (z .word) → n ≤ 3
+return-small {z = z} g e = let k = placed-small (z .word) return-words in omega (arith, e, k)
 
 -- The loop stands at a return word behind n others; the expr of the first ends with what begins here.
 pub record Returns (s : List ℕ) (b : Bool) (l₀ : Limits) (h₀ : Here) (t₀ starts details : List ℕ) (n : ℕ) (l : Limits) (h : Here) (t : List ℕ) : Type 0 where

@@ -13,11 +13,11 @@ use lib.ListN.{length, getD}
 use Rattle.rows.specs.declared.Row.{Row}
 use Rattle.rows.specs.Rows.{putRow}
 use Rattle.chars.specs.Chars.{pick}
-use Rattle.grammar.specs.Words.{open-brace, close-brace, dot, names}
+use Rattle.grammar.specs.Words.{open-brace, close-brace, 'in', dot, names}
 use Rattle.grammar.specs.Grammar.{plain, closes-bracket, body, Symbol, one-of}
 use Rattle.grammar.specs.Limits.{Counts, after, inside}
-use Rattle.grammar.specs.Table.{a, behind, row, part, opens, closes}
-use Rattle.grammar.specs.Kinds.{no-records, RESULT, LET-TYPE, IMPORTPATH-DOT, STATEMENTS, AFTER-FOUR, AFTER-EXPR, FIELDS, FIELDS-MORE, FIELD, ELSE, ELSE-PART, BLOCK, ARMS, ARM-BODY, ARM-COMMA, ARM-NEXT, GUARD, EXPR, RETURNED, BINARY, AND, COMPARE, SUM, PRODUCT, OPERAND, POSTFIX, AFTER-PATH}
+use Rattle.grammar.specs.Table.{a, behind, word, row, part, opens, closes}
+use Rattle.grammar.specs.Kinds.{no-records, NAME, RESULT, LET-TYPE, IMPORTPATH-DOT, STATEMENTS, AFTER-FOUR, AFTER-EXPR, FIELDS, FIELDS-MORE, FIELD, ELSE, ELSE-PART, BLOCK, ARMS, ARM-BODY, ARM-COMMA, ARM-NEXT, GUARD, EXPR, RETURNED, BINARY, AND, COMPARE, SUM, PRODUCT, OPERAND, POSTFIX, AFTER-PATH}
 use Rattle.grammar.specs.Rows.{detail-for}
 use Rattle.grammar.specs.Rows as grammar
 use Rattle.grammar.specs.Answers.{accepted, refused}
@@ -166,18 +166,31 @@ Last s h t l b m detail r t′ =
     → Going f (at (counts l) (a (RETURNED b) ∷ row 27 ∷ []) ∷ []) h t (many (m .start) (m .end) 0 (some w)) 0 4
     → Answers f 1 r t′
 
--- An `if` from behind that word to its end; its expr and its block; the block behind its `else`; past the `if` there.
-abbrev pub Chained : List ℕ → Here → List ℕ → Limits → ℕ → Read → List ℕ → Type 0
-Chained s h t l start r t′ =
+-- An `if`, `while`, `for` or `match` from behind that word, which starts at `start`, to its end; ss is what its rule asks for then.
+abbrev pub Headed : List Symbol → List ℕ → Here → List ℕ → Limits → ℕ → Read → List ℕ → Type 0
+Headed ss s h t l start r t′ =
     (f : Phrase) (d : Counts) (e w : ℕ) → f .text ≡ s → d ≡ counts (headed l) → inside body d ≡ counts l
-    → Going f (at d (a (EXPR no-records) ∷ behind BLOCK ∷ behind ELSE ∷ row 28 ∷ []) ∷ []) h t (many start e 0 (some w)) 0 4
+    → Going f (at d ss ∷ []) h t (many start e 0 (some w)) 0 4
     → Answers f 1 r t′
 
+abbrev pub afterIf : List Symbol
+afterIf = a (EXPR no-records) ∷ behind BLOCK ∷ behind ELSE ∷ row 28 ∷ []
+
+abbrev pub afterWhile : List Symbol
+afterWhile = a (EXPR no-records) ∷ behind BLOCK ∷ row 29 ∷ []
+
+abbrev pub afterFor : List Symbol
+afterFor = a NAME ∷ word 'in' ∷ a (EXPR no-records) ∷ behind BLOCK ∷ row 30 ∷ []
+
+abbrev pub afterMatch : List Symbol
+afterMatch = a (EXPR no-records) ∷ opens open-brace ∷ behind ARMS ∷ closes close-brace ∷ row 31 ∷ []
+
+-- The expr and the block of one of the first three; the block behind an `else`; past the `if` there.
 abbrev pub Tested : List ℕ → Here → List ℕ → Limits → Read → List ℕ → Type 0
 Tested s h t l r t′ =
-    (f : Phrase) (d : Counts) (ss : List Symbol) (x e w k : ℕ) → f .text ≡ s → d ≡ counts (headed l) → inside body d ≡ counts l
-    → Going f (at d (a (EXPR no-records) ∷ behind BLOCK ∷ ss) ∷ []) h t (many x e 0 (some w)) 0 k
-    → Partly f r t′ (λ m h′. Going f (at d ss ∷ []) h′ t′ (many x (m .end) 2 (some w)) 0 (k + 1 + 1))
+    (f : Phrase) (d : Counts) (ss : List Symbol) (x e c w k : ℕ) → f .text ≡ s → d ≡ counts (headed l) → inside body d ≡ counts l
+    → Going f (at d (a (EXPR no-records) ∷ behind BLOCK ∷ ss) ∷ []) h t (many x e c (some w)) 0 k
+    → Partly f r t′ (λ m h′. Going f (at d ss ∷ []) h′ t′ (many x (m .end) (c + 1 + 1) (some w)) 0 (k + 1 + 1))
 
 abbrev pub Elsed : List ℕ → Here → List ℕ → Limits → ℕ → Read → List ℕ → Type 0
 Elsed s h t l start r t′ =

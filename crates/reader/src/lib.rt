@@ -18,7 +18,7 @@ ghost use Rattle.parser.specs.Places.{later, nodeOf, plainRow};
 ghost use Rattle.parser.specs.Counted.{counts};
 ghost use Rattle.parser.specs.Going.{Stands, Answers};
 ghost use Rattle.promises.specs.Firsts.{postfixSigns, closingOf, signWords, detailRow, returnRow, armEnd, childless, undotted, onward, few};
-ghost use Rattle.promises.specs.Promises.{the, Anyhow, Partly, itemRow, wrote, Closed, Listed, Typing, Guarded, Grouped, LEVEL, Atom, Behind, AnyBehind, Fielded, Chained, Tested, Elsed, linked, Last, overRead, overTable, Matched, Armed, Bodied, Stated, Statement, Beyond, Finished};
+ghost use Rattle.promises.specs.Promises.{the, Anyhow, Partly, itemRow, wrote, Closed, Listed, Typing, Guarded, Grouped, LEVEL, Atom, Behind, AnyBehind, Fielded, Headed, afterIf, afterWhile, afterFor, afterMatch, Tested, Elsed, linked, Last, overRead, overTable, Matched, Armed, Bodied, Stated, Statement, Beyond, Finished};
 use parser::Here;
 use parser::Limits;
 use parser::Node;
@@ -102,8 +102,6 @@ const IN: u64 = 71;
 
 const LET: u64 = 72;
 
-const MATCH: u64 = 73;
-
 const WHILE: u64 = 81;
 
 // A part of a phrase and what its reader tells of it, where the phrase goes on at `here`.
@@ -139,17 +137,17 @@ fn place_in(list: &[usize], i: usize) -> usize
     if i < list.len() { list[i] } else { 0 }
 }
 
-fn detail_in(list: &[u64], i: usize) -> u64
+fn detail_in(list: &[u8], i: usize) -> u64
     ensures { λ r. ⌜ r ≡ getD (now (list .entry)) i 0 ⌝ }
 {
-    if i < list.len() { list[i] } else { 0 }
+    if i < list.len() { list[i] as u64 } else { 0 }
 }
 
 // The rows of so many phrases that each end with the next, over what the innermost holds.
 fn around(
     table: &mut [u64],
     starts: &[usize],
-    details: &[u64],
+    details: &[u8],
     count: usize,
     kind: u64,
     children: u64,
@@ -595,7 +593,7 @@ fn rets(s: &[u8], table: &mut [u64], at: Here, limits: Limits, records: bool) ->
     ensures { λ r. ⌜ Answers (the (now (s .entry)) (counts limits) (EXPR records) at (now (table .entry))) 1 r (now (table .exit)) ⌝ }
 {
     let mut starts: [usize; 32] = [0; 32];
-    let mut details: [u64; 32] = [0; 32];
+    let mut details: [u8; 32] = [0; 32];
     let mut count: usize = 0;
     let mut here = at;
     let mut inner = limits;
@@ -611,7 +609,7 @@ fn rets(s: &[u8], table: &mut [u64], at: Here, limits: Limits, records: bool) ->
             return around(table, &starts, &details, count, 27, 1, r);
         }
         starts[count] = word.start;
-        details[count] = detail;
+        details[count] = detail as u8;
         count += 1;
         here = next;
     }
@@ -1008,34 +1006,34 @@ fn four(s: &[u8], table: &mut [u64], here: Here, limits: Limits) -> Read
     requires { ⌜ Stands (now s) here ⌝ }
     ensures { λ r. ⌜ Answers (the (now (s .entry)) (counts limits) FOUR here (now (table .entry))) 1 r (now (table .exit)) ⌝ }
 {
+    if !is_four(here.word) {
+        return unusable(here);
+    }
+    let limits = limits.unchained();
+    let r = deeper(s, here, limits.heads);
+    let Read::Done(word, next) = r else {
+        return r;
+    };
     if here.word == IF {
-        let limits = limits.unchained();
-        let r = deeper(s, here, limits.heads);
-        let Read::Done(word, next) = r else {
-            return r;
-        };
         return if_else(s, table, next, limits, word.start);
     }
     if here.word == WHILE {
-        return whiles(s, table, here, limits);
+        return whiles(s, table, next, limits, word.start);
     }
     if here.word == FOR {
-        return for_in(s, table, here, limits);
+        return for_in(s, table, next, limits, word.start);
     }
-    if here.word == MATCH {
-        return matches(s, table, here, limits);
-    }
-    unusable(here)
+    matches(s, table, next, limits, word.start)
 }
 
-// `if expr block [else block or if]` from behind its `if` on, which starts at `start`; the row of an `if` is over that of
-// the `if` behind its `else`.
+// `if expr block [else block or if]`. Like the other three it is read from behind its word on, which starts at `start`. The
+// row of an `if` is over that of the `if` behind its `else`.
 fn if_else(s: &[u8], table: &mut [u64], at: Here, limits: Limits, start: usize) -> Read
     requires { ⌜ (Stands (now s) at) × (limits .signs ≡ 0) ⌝ }
-    ensures { λ r. ⌜ Chained (now (s .entry)) at (now (table .entry)) limits start r (now (table .exit)) ⌝ }
+    ensures { λ r. ⌜ Headed afterIf (now (s .entry)) at (now (table .entry)) limits start r (now (table .exit)) ⌝ }
 {
     let mut starts: [usize; 32] = [0; 32];
-    let none: [u64; 0] = [0; 0];
+    let none: [u8; 0] = [0; 0];
     let mut count: usize = 0;
     let mut here = at;
     let mut inner = limits;
@@ -1066,7 +1064,7 @@ fn if_else(s: &[u8], table: &mut [u64], at: Here, limits: Limits, start: usize) 
     }
 }
 
-// `expr block` behind an `if`.
+// `expr block` behind an `if`, a `while` or an `in`.
 fn cond(s: &[u8], table: &mut [u64], at: Here, limits: Limits) -> Read
     requires { ⌜ Stands (now s) at ⌝ }
     ensures { λ r. ⌜ (Tested (now (s .entry)) at (now (table .entry)) limits r (now (table .exit))) × (Beyond (now (s .entry)) at r) ⌝ }
@@ -1104,37 +1102,23 @@ fn else_if(s: &[u8], here: Here, limits: Limits) -> Read
 }
 
 // `while expr block`
-fn whiles(s: &[u8], table: &mut [u64], here: Here, limits: Limits) -> Read
-    requires { ⌜ (Stands (now s) here) × (here .word ≡ 81) ⌝ }
-    ensures { λ r. ⌜ Answers (the (now (s .entry)) (counts limits) FOUR here (now (table .entry))) 1 r (now (table .exit)) ⌝ }
+fn whiles(s: &[u8], table: &mut [u64], at: Here, limits: Limits, start: usize) -> Read
+    requires { ⌜ Stands (now s) at ⌝ }
+    ensures { λ r. ⌜ Headed afterWhile (now (s .entry)) at (now (table .entry)) limits start r (now (table .exit)) ⌝ }
 {
-    let limits = limits.unchained();
-    let r = deeper(s, here, limits.heads);
-    let Read::Done(word, next) = r else {
-        return r;
-    };
-    let r = expr(s, table, next, limits.headed(), false);
-    let Read::Done(_, next) = r else {
-        return r;
-    };
-    let r = block(s, table, next, limits);
+    let r = cond(s, table, at, limits);
     let Read::Done(body, next) = r else {
         return r;
     };
-    finish(table, plain_row(29, word.start, body.end, 2), next)
+    finish(table, plain_row(29, start, body.end, 2), next)
 }
 
 // `for name in expr block`
-fn for_in(s: &[u8], table: &mut [u64], here: Here, limits: Limits) -> Read
-    requires { ⌜ (Stands (now s) here) × (here .word ≡ 67) ⌝ }
-    ensures { λ r. ⌜ Answers (the (now (s .entry)) (counts limits) FOUR here (now (table .entry))) 1 r (now (table .exit)) ⌝ }
+fn for_in(s: &[u8], table: &mut [u64], at: Here, limits: Limits, start: usize) -> Read
+    requires { ⌜ (Stands (now s) at) × (limits .signs ≡ 0) ⌝ }
+    ensures { λ r. ⌜ Headed afterFor (now (s .entry)) at (now (table .entry)) limits start r (now (table .exit)) ⌝ }
 {
-    let limits = limits.unchained();
-    let r = deeper(s, here, limits.heads);
-    let Read::Done(word, next) = r else {
-        return r;
-    };
-    let r = identifier(s, table, next);
+    let r = identifier(s, table, at);
     let Read::Done(_, next) = r else {
         return r;
     };
@@ -1142,28 +1126,19 @@ fn for_in(s: &[u8], table: &mut [u64], here: Here, limits: Limits) -> Read
     let Read::Done(_, next) = r else {
         return r;
     };
-    let r = expr(s, table, next, limits.headed(), false);
-    let Read::Done(_, next) = r else {
-        return r;
-    };
-    let r = block(s, table, next, limits);
+    let r = cond(s, table, next, limits);
     let Read::Done(body, next) = r else {
         return r;
     };
-    finish(table, plain_row(30, word.start, body.end, 3), next)
+    finish(table, plain_row(30, start, body.end, 3), next)
 }
 
 // `match expr { arms }`
-fn matches(s: &[u8], table: &mut [u64], here: Here, limits: Limits) -> Read
-    requires { ⌜ (Stands (now s) here) × (here .word ≡ 73) ⌝ }
-    ensures { λ r. ⌜ Answers (the (now (s .entry)) (counts limits) FOUR here (now (table .entry))) 1 r (now (table .exit)) ⌝ }
+fn matches(s: &[u8], table: &mut [u64], at: Here, limits: Limits, start: usize) -> Read
+    requires { ⌜ Stands (now s) at ⌝ }
+    ensures { λ r. ⌜ Headed afterMatch (now (s .entry)) at (now (table .entry)) limits start r (now (table .exit)) ⌝ }
 {
-    let limits = limits.unchained();
-    let r = deeper(s, here, limits.heads);
-    let Read::Done(word, next) = r else {
-        return r;
-    };
-    let r = expr(s, table, next, limits.headed(), false);
+    let r = expr(s, table, at, limits.headed(), false);
     let Read::Done(_, next) = r else {
         return r;
     };
@@ -1171,7 +1146,7 @@ fn matches(s: &[u8], table: &mut [u64], here: Here, limits: Limits) -> Read
     let Read::Done(_, inside) = r else {
         return r;
     };
-    arms(s, table, inside, limits.opened(), word.start)
+    arms(s, table, inside, limits.opened(), start)
 }
 
 // The arms of a match that began at `start`, from behind its `{` on; its children are the matched expr and they.

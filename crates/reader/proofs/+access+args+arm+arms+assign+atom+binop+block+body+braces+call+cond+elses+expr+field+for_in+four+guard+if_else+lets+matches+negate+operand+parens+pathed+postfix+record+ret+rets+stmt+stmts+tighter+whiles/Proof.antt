@@ -161,12 +161,12 @@ use Rattle.reader.proofs.+access+args+arm+arms+assign+atom+binop+block+
 use Rattle.reader.proofs.+access+args+arm+arms+assign+atom+binop+block+body+braces+call+cond+elses+expr+field+for_in+four+guard+if_else+lets+matches+negate+operand+parens+pathed+postfix+record+ret+rets+stmt+stmts+tighter+whiles.Proof.Elses.{elses-unusable-requires, elses-returns, elses-block-requires, elses-enum-known-r, elses-enum-told, elses-same-length, elses-returns-2, elses-plain-row-requires, elses-finish-requires, elses-same-length-2, elses-returns-3}
 use Rattle.reader.proofs.+access+args+arm+arms+assign+atom+binop+block+body+braces+call+cond+elses+expr+field+for_in+four+guard+if_else+lets+matches+negate+operand+parens+pathed+postfix+record+ret+rets+stmt+stmts+tighter+whiles.Proof.Expr.{expr-return-detail-requires, expr-rets-requires, expr-same-length, expr-returns, expr-assign-requires, expr-same-length-2, expr-returns-2}
 use Rattle.reader.proofs.+access+args+arm+arms+assign+atom+binop+block+body+braces+call+cond+elses+expr+field+for_in+four+guard+if_else+lets+matches+negate+operand+parens+pathed+postfix+record+ret+rets+stmt+stmts+tighter+whiles.Proof.Field.{field-identifier-requires, field-enum-known-r, field-enum-told, field-same-length, field-returns, field-expect-requires, field-enum-known-r-2, field-enum-told-2, field-same-length-2, field-returns-2, field-plain-requires, field-expr-requires, field-enum-known-r-3, field-enum-told-3, field-same-length-3, field-returns-3, field-plain-row-requires, field-finish-requires, field-same-length-4, field-returns-4}
-use Rattle.reader.proofs.+access+args+arm+arms+assign+atom+binop+block+body+braces+call+cond+elses+expr+field+for_in+four+guard+if_else+lets+matches+negate+operand+parens+pathed+postfix+record+ret+rets+stmt+stmts+tighter+whiles.Proof.ForIn.{for-in-unchained-requires, for-in-deeper-requires, for-in-enum-known-r, for-in-enum-told, for-in-returns, for-in-identifier-requires, for-in-enum-known-r-2, for-in-enum-told-2, for-in-same-length, for-in-returns-2, for-in-expect-requires, for-in-enum-known-r-3, for-in-enum-told-3, for-in-same-length-2, for-in-returns-3, for-in-headed-requires, for-in-expr-requires, for-in-enum-known-r-4, for-in-enum-told-4, for-in-same-length-3, for-in-returns-4, for-in-block-requires, for-in-enum-known-r-5, for-in-enum-told-5, for-in-same-length-4, for-in-returns-5, for-in-plain-row-requires, for-in-finish-requires, for-in-same-length-5, for-in-returns-6}
-use Rattle.reader.proofs.+access+args+arm+arms+assign+atom+binop+block+body+braces+call+cond+elses+expr+field+for_in+four+guard+if_else+lets+matches+negate+operand+parens+pathed+postfix+record+ret+rets+stmt+stmts+tighter+whiles.Proof.Four.{four-unchained-requires, four-deeper-requires, four-enum-known-r, four-enum-told, four-returns, four-if-else-requires, four-same-length, four-returns-2, four-whiles-requires, four-same-length-2, four-returns-3, four-for-in-requires, four-same-length-3, four-returns-4, four-matches-requires, four-same-length-4, four-returns-5, four-unusable-requires, four-returns-6}
+use Rattle.reader.proofs.+access+args+arm+arms+assign+atom+binop+block+body+braces+call+cond+elses+expr+field+for_in+four+guard+if_else+lets+matches+negate+operand+parens+pathed+postfix+record+ret+rets+stmt+stmts+tighter+whiles.Proof.ForIn.{for-in-identifier-requires, for-in-enum-known-r, for-in-enum-told, for-in-same-length, for-in-returns, for-in-expect-requires, for-in-enum-known-r-2, for-in-enum-told-2, for-in-same-length-2, for-in-returns-2, for-in-cond-requires, for-in-enum-known-r-3, for-in-enum-told-3, for-in-same-length-3, for-in-returns-3, for-in-plain-row-requires, for-in-finish-requires, for-in-same-length-4, for-in-returns-4}
+use Rattle.reader.proofs.+access+args+arm+arms+assign+atom+binop+block+body+braces+call+cond+elses+expr+field+for_in+four+guard+if_else+lets+matches+negate+operand+parens+pathed+postfix+record+ret+rets+stmt+stmts+tighter+whiles.Proof.Four.{four-is-four-requires, four-unusable-requires, four-returns, four-unchained-requires, four-deeper-requires, four-enum-known-r, four-enum-told, four-returns-2, four-if-else-requires, four-same-length, four-returns-3, four-whiles-requires, four-same-length-2, four-returns-4, four-for-in-requires, four-same-length-3, four-returns-5, four-matches-requires, four-same-length-4, four-returns-6}
 use Rattle.reader.proofs.+access+args+arm+arms+assign+atom+binop+block+body+braces+call+cond+elses+expr+field+for_in+four+guard+if_else+lets+matches+negate+operand+parens+pathed+postfix+record+ret+rets+stmt+stmts+tighter+whiles.Proof.Guard.{guard-part-requires, guard-returns, guard-take-requires, guard-plain-requires, guard-expr-requires, guard-enum-known-r, guard-enum-told, guard-same-length, guard-returns-2, guard-part-requires-2, guard-same-length-2, guard-returns-3}
 use Rattle.reader.proofs.+access+args+arm+arms+assign+atom+binop+block+body+braces+call+cond+elses+expr+field+for_in+four+guard+if_else+lets+matches+negate+operand+parens+pathed+postfix+record+ret+rets+stmt+stmts+tighter+whiles.Proof.IfElse.{if-else-loop-holds, if-else-cond-requires, if-else-enum-known-r, if-else-enum-told, if-else-same-length, if-else-returns, if-else-plain-row-requires, if-else-finish-requires, if-else-slice-aggregate-around, if-else-slice-aggregate-around-2, if-else-around-requires, if-else-same-length-2, if-else-returns-2, if-else-take-requires, if-else-elses-requires, if-else-slice-aggregate-around-3, if-else-slice-aggregate-around-4, if-else-around-requires-2, if-else-same-length-3, if-else-returns-3, if-else-else-if-requires, if-else-enum-known-r-2, if-else-enum-told-2, if-else-same-length-4, if-else-returns-4, if-else-mul-starts, if-else-array-write-starts, if-else-add-count, if-else-chained-requires, if-else-loop-less, if-else-loop-again, if-else-Inv-loop, if-else-μ-loop}
 use Rattle.reader.proofs.+access+args+arm+arms+assign+atom+binop+block+body+braces+call+cond+elses+expr+field+for_in+four+guard+if_else+lets+matches+negate+operand+parens+pathed+postfix+record+ret+rets+stmt+stmts+tighter+whiles.Proof.Lets.{lets-plain-requires, lets-take-requires, lets-identifier-requires, lets-enum-known-r, lets-enum-told, lets-same-length, lets-returns, lets-typing-requires, lets-enum-known-r-2, lets-enum-told-2, lets-same-length-2, lets-returns-2, lets-expect-requires, lets-enum-known-r-3, lets-enum-told-3, lets-same-length-3, lets-returns-3, lets-expr-requires, lets-enum-known-r-4, lets-enum-told-4, lets-same-length-4, lets-returns-4, lets-expect-requires-2, lets-enum-known-r-5, lets-enum-told-5, lets-same-length-5, lets-returns-5, lets-add-valued-row, lets-valued-row-requires, lets-finish-requires, lets-same-length-6, lets-returns-6}
-use Rattle.reader.proofs.+access+args+arm+arms+assign+atom+binop+block+body+braces+call+cond+elses+expr+field+for_in+four+guard+if_else+lets+matches+negate+operand+parens+pathed+postfix+record+ret+rets+stmt+stmts+tighter+whiles.Proof.Matches.{matches-unchained-requires, matches-deeper-requires, matches-enum-known-r, matches-enum-told, matches-returns, matches-headed-requires, matches-expr-requires, matches-enum-known-r-2, matches-enum-told-2, matches-same-length, matches-returns-2, matches-open-requires, matches-enum-known-r-3, matches-enum-told-3, matches-same-length-2, matches-returns-3, matches-opened-requires, matches-arms-requires, matches-same-length-3, matches-returns-4}
+use Rattle.reader.proofs.+access+args+arm+arms+assign+atom+binop+block+body+braces+call+cond+elses+expr+field+for_in+four+guard+if_else+lets+matches+negate+operand+parens+pathed+postfix+record+ret+rets+stmt+stmts+tighter+whiles.Proof.Matches.{matches-headed-requires, matches-expr-requires, matches-enum-known-r, matches-enum-told, matches-same-length, matches-returns, matches-open-requires, matches-enum-known-r-2, matches-enum-told-2, matches-same-length-2, matches-returns-2, matches-opened-requires, matches-arms-requires, matches-same-length-3, matches-returns-3}
 use Rattle.reader.proofs.+access+args+arm+arms+assign+atom+binop+block+body+braces+call+cond+elses+expr+field+for_in+four+guard+if_else+lets+matches+negate+operand+parens+pathed+postfix+record+ret+rets+stmt+stmts+tighter+whiles.Proof.Negate.{negate-deeper-requires, negate-enum-known-r, negate-enum-told, negate-returns, negate-signed-requires, negate-operand-requires, negate-enum-known-r-2, negate-enum-told-2, negate-same-length, negate-returns-2, negate-sign-kind-requires, negate-plain-row-requires, negate-finish-requires, negate-same-length-2, negate-returns-3}
 use Rattle.reader.proofs.+access+args+arm+arms+assign+atom+binop+block+body+braces+call+cond+elses+expr+field+for_in+four+guard+if_else+lets+matches+negate+operand+parens+pathed+postfix+record+ret+rets+stmt+stmts+tighter+whiles.Proof.Operand.{operand-is-sign-requires, operand-negate-requires, operand-same-length, operand-returns, operand-access-requires, operand-same-length-2, operand-returns-2}
 use Rattle.reader.proofs.+access+args+arm+arms+assign+atom+binop+block+body+braces+call+cond+elses+expr+field+for_in+four+guard+if_else+lets+matches+negate+operand+parens+pathed+postfix+record+ret+rets+stmt+stmts+tighter+whiles.Proof.Parens.{parens-open-requires, parens-enum-known-r, parens-enum-told, parens-returns, parens-opened-requires, parens-expr-requires, parens-enum-known-r-2, parens-enum-told-2, parens-same-length, parens-returns-2, parens-expect-requires, parens-enum-known-r-3, parens-enum-told-3, parens-same-length-2, parens-returns-3, parens-same-length-3, parens-returns-4}
@@ -174,11 +174,11 @@ use Rattle.reader.proofs.+access+args+arm+arms+assign+atom+binop+block+
 use Rattle.reader.proofs.+access+args+arm+arms+assign+atom+binop+block+body+braces+call+cond+elses+expr+field+for_in+four+guard+if_else+lets+matches+negate+operand+parens+pathed+postfix+record+ret+rets+stmt+stmts+tighter+whiles.Proof.Postfix.{postfix-question-requires, postfix-same-length, postfix-returns, postfix-call-requires, postfix-same-length-2, postfix-returns-2, postfix-field-access-requires, postfix-same-length-3, postfix-returns-3}
 use Rattle.reader.proofs.+access+args+arm+arms+assign+atom+binop+block+body+braces+call+cond+elses+expr+field+for_in+four+guard+if_else+lets+matches+negate+operand+parens+pathed+postfix+record+ret+rets+stmt+stmts+tighter+whiles.Proof.Record.{record-loop-holds, record-is-name-requires, record-field-requires, record-enum-known-r, record-enum-told, record-same-length, record-returns, record-add-children, record-valued-row-requires, record-braced-requires, record-same-length-2, record-returns-2, record-take-requires, record-loop-less, record-loop-again, record-valued-row-requires-2, record-braced-requires-2, record-same-length-3, record-returns-3, record-Inv-loop, record-μ-loop}
 use Rattle.reader.proofs.+access+args+arm+arms+assign+atom+binop+block+body+braces+call+cond+elses+expr+field+for_in+four+guard+if_else+lets+matches+negate+operand+parens+pathed+postfix+record+ret+rets+stmt+stmts+tighter+whiles.Proof.Ret.{ret-ends-return-requires, ret-returned-requires, ret-same-length, ret-returns, ret-assign-requires, ret-enum-known-r, ret-enum-told, ret-same-length-2, ret-returns-2, ret-returned-requires-2, ret-same-length-3, ret-returns-3}
-use Rattle.reader.proofs.+access+args+arm+arms+assign+atom+binop+block+body+braces+call+cond+elses+expr+field+for_in+four+guard+if_else+lets+matches+negate+operand+parens+pathed+postfix+record+ret+rets+stmt+stmts+tighter+whiles.Proof.Rets.{rets-loop-holds, rets-deeper-requires, rets-enum-known-r, rets-enum-told, rets-same-length, rets-returns, rets-return-detail-requires, rets-signed-requires, rets-return-detail-requires-2, rets-ret-requires, rets-slice-aggregate-around, rets-slice-aggregate-around-2, rets-around-requires, rets-same-length-2, rets-returns-2, rets-mul-starts, rets-array-write-starts, rets-mul-details, rets-array-write-details, rets-add-count, rets-loop-less, rets-loop-again, rets-Inv-loop, rets-μ-loop}
+use Rattle.reader.proofs.+access+args+arm+arms+assign+atom+binop+block+body+braces+call+cond+elses+expr+field+for_in+four+guard+if_else+lets+matches+negate+operand+parens+pathed+postfix+record+ret+rets+stmt+stmts+tighter+whiles.Proof.Rets.{rets-loop-holds, rets-deeper-requires, rets-enum-known-r, rets-enum-told, rets-same-length, rets-returns, rets-return-detail-requires, rets-signed-requires, rets-return-detail-requires-2, rets-ret-requires, rets-slice-aggregate-around, rets-slice-aggregate-around-2, rets-around-requires, rets-same-length-2, rets-returns-2, rets-mul-starts, rets-array-write-starts, rets-cast-details, rets-array-write-details, rets-add-count, rets-loop-less, rets-loop-again, rets-Inv-loop, rets-μ-loop}
 use Rattle.reader.proofs.+access+args+arm+arms+assign+atom+binop+block+body+braces+call+cond+elses+expr+field+for_in+four+guard+if_else+lets+matches+negate+operand+parens+pathed+postfix+record+ret+rets+stmt+stmts+tighter+whiles.Proof.Stmt.{stmt-import-requires, stmt-same-length, stmt-returns, stmt-lets-requires, stmt-same-length-2, stmt-returns-2, stmt-is-four-requires, stmt-four-requires, stmt-enum-known-r, stmt-enum-told, stmt-same-length-3, stmt-returns-3, stmt-part-requires, stmt-same-length-4, stmt-returns-4, stmt-expect-requires, stmt-same-length-5, stmt-returns-5, stmt-can-begin-expr-requires, stmt-unusable-requires, stmt-returns-6, stmt-expr-requires, stmt-enum-known-r-2, stmt-enum-told-2, stmt-same-length-6, stmt-returns-7, stmt-part-requires-2, stmt-same-length-7, stmt-returns-8, stmt-expect-requires-2, stmt-same-length-8, stmt-returns-9}
 use Rattle.reader.proofs.+access+args+arm+arms+assign+atom+binop+block+body+braces+call+cond+elses+expr+field+for_in+four+guard+if_else+lets+matches+negate+operand+parens+pathed+postfix+record+ret+rets+stmt+stmts+tighter+whiles.Proof.Stmts.{stmts-loop-holds, stmts-can-begin-statement-requires, stmts-stmt-requires, stmts-enum-known-r, stmts-enum-told, stmts-same-length, stmts-returns, stmts-add-children, stmts-valued-row-requires, stmts-braced-requires, stmts-same-length-2, stmts-returns-2, stmts-loop-less, stmts-loop-again, stmts-valued-row-requires-2, stmts-braced-requires-2, stmts-same-length-3, stmts-returns-3, stmts-Inv-loop, stmts-μ-loop}
 use Rattle.reader.proofs.+access+args+arm+arms+assign+atom+binop+block+body+braces+call+cond+elses+expr+field+for_in+four+guard+if_else+lets+matches+negate+operand+parens+pathed+postfix+record+ret+rets+stmt+stmts+tighter+whiles.Proof.Tighter.{tighter-is-sign-requires, tighter-negate-requires, tighter-same-length, tighter-returns, tighter-access-requires, tighter-same-length-2, tighter-returns-2, tighter-add-binop, tighter-binop-requires, tighter-same-length-3, tighter-returns-3}
-use Rattle.reader.proofs.+access+args+arm+arms+assign+atom+binop+block+body+braces+call+cond+elses+expr+field+for_in+four+guard+if_else+lets+matches+negate+operand+parens+pathed+postfix+record+ret+rets+stmt+stmts+tighter+whiles.Proof.Whiles.{whiles-unchained-requires, whiles-deeper-requires, whiles-enum-known-r, whiles-enum-told, whiles-returns, whiles-headed-requires, whiles-expr-requires, whiles-enum-known-r-2, whiles-enum-told-2, whiles-same-length, whiles-returns-2, whiles-block-requires, whiles-enum-known-r-3, whiles-enum-told-3, whiles-same-length-2, whiles-returns-3, whiles-plain-row-requires, whiles-finish-requires, whiles-same-length-3, whiles-returns-4}
+use Rattle.reader.proofs.+access+args+arm+arms+assign+atom+binop+block+body+braces+call+cond+elses+expr+field+for_in+four+guard+if_else+lets+matches+negate+operand+parens+pathed+postfix+record+ret+rets+stmt+stmts+tighter+whiles.Proof.Whiles.{whiles-cond-requires, whiles-enum-known-r, whiles-enum-told, whiles-same-length, whiles-returns, whiles-plain-row-requires, whiles-finish-requires, whiles-same-length-2, whiles-returns-2}
 
 pub +access+args+arm+arms+assign+atom+binop+block+body+braces+call+cond+elses+expr+field+for-in+four+guard+if-else+lets+matches+negate+operand+parens+pathed+postfix+record+ret+rets+stmt+stmts+tighter+whiles-spec :
     {M : Type 1} → statement M
@@ -687,20 +687,12 @@ pub +access+args+arm+arms+assign+atom+binop+block+body+braces+call+cond+elses+ex
     (field-same-length-4 t)
     (field-returns-4 t))
     (λ t. for-in-lts.spec (
-      unchained-reads.Asked,
-      unchained-reads.Learnt,
-      deeper-reads.Asked,
-      deeper-reads.Learnt,
       identifier-reads.Asked,
       identifier-reads.Learnt,
       expect-reads.Asked,
       expect-reads.Learnt,
-      headed-reads.Asked,
-      headed-reads.Learnt,
-      expr-below t,
-      expr.Post,
-      block-below t,
-      block.Post,
+      cond-below t,
+      cond.Post,
       plain-row-reads.Asked,
       plain-row-reads.Learnt,
       finish-reads.Asked,
@@ -708,37 +700,30 @@ pub +access+args+arm+arms+assign+atom+binop+block+body+braces+call+cond+elses+ex
     )
     (for-in-at t)
     for-in.Post
-    (for-in-unchained-requires t)
-    (for-in-deeper-requires t)
+    (for-in-identifier-requires t)
     (for-in-enum-known-r t)
     (for-in-enum-told t)
+    (for-in-same-length t)
     (for-in-returns t)
-    (for-in-identifier-requires t)
+    (for-in-expect-requires t)
     (for-in-enum-known-r-2 t)
     (for-in-enum-told-2 t)
-    (for-in-same-length t)
+    (for-in-same-length-2 t)
     (for-in-returns-2 t)
-    (for-in-expect-requires t)
+    (for-in-cond-requires t)
     (for-in-enum-known-r-3 t)
     (for-in-enum-told-3 t)
-    (for-in-same-length-2 t)
-    (for-in-returns-3 t)
-    (for-in-headed-requires t)
-    (for-in-expr-requires t)
-    (for-in-enum-known-r-4 t)
-    (for-in-enum-told-4 t)
     (for-in-same-length-3 t)
-    (for-in-returns-4 t)
-    (for-in-block-requires t)
-    (for-in-enum-known-r-5 t)
-    (for-in-enum-told-5 t)
-    (for-in-same-length-4 t)
-    (for-in-returns-5 t)
+    (for-in-returns-3 t)
     (for-in-plain-row-requires t)
     (for-in-finish-requires t)
-    (for-in-same-length-5 t)
-    (for-in-returns-6 t))
+    (for-in-same-length-4 t)
+    (for-in-returns-4 t))
     (λ t. four-lts.spec (
+      is-four-reads.Asked,
+      is-four-reads.Learnt,
+      unusable-reads.Asked,
+      unusable-reads.Learnt,
       unchained-reads.Asked,
       unchained-reads.Learnt,
       deeper-reads.Asked,
@@ -751,29 +736,28 @@ pub +access+args+arm+arms+assign+atom+binop+block+body+braces+call+cond+elses+ex
       for-in.Post,
       matches-below t,
       matches.Post,
-      unusable-reads.Asked,
-      unusable-reads.Learnt,
     )
     (four-at t)
     four.Post
+    (four-is-four-requires t)
+    (four-unusable-requires t)
+    (four-returns t)
     (four-unchained-requires t)
     (four-deeper-requires t)
     (four-enum-known-r t)
     (four-enum-told t)
-    (four-returns t)
+    (four-returns-2 t)
     (four-if-else-requires t)
     (four-same-length t)
-    (four-returns-2 t)
+    (four-returns-3 t)
     (four-whiles-requires t)
     (four-same-length-2 t)
-    (four-returns-3 t)
+    (four-returns-4 t)
     (four-for-in-requires t)
     (four-same-length-3 t)
-    (four-returns-4 t)
+    (four-returns-5 t)
     (four-matches-requires t)
     (four-same-length-4 t)
-    (four-returns-5 t)
-    (four-unusable-requires t)
     (four-returns-6 t))
     (λ t. guard-lts.spec (
       part-reads.Asked,
@@ -905,10 +889,6 @@ pub +access+args+arm+arms+assign+atom+binop+block+body+braces+call+cond+elses+ex
     (lets-same-length-6 t)
     (lets-returns-6 t))
     (λ t. matches-lts.spec (
-      unchained-reads.Asked,
-      unchained-reads.Learnt,
-      deeper-reads.Asked,
-      deeper-reads.Learnt,
       headed-reads.Asked,
       headed-reads.Learnt,
       expr-below t,
@@ -922,26 +902,21 @@ pub +access+args+arm+arms+assign+atom+binop+block+body+braces+call+cond+elses+ex
     )
     (matches-at t)
     matches.Post
-    (matches-unchained-requires t)
-    (matches-deeper-requires t)
-    (matches-enum-known-r t)
-    (matches-enum-told t)
-    (matches-returns t)
     (matches-headed-requires t)
     (matches-expr-requires t)
+    (matches-enum-known-r t)
+    (matches-enum-told t)
+    (matches-same-length t)
+    (matches-returns t)
+    (matches-open-requires t)
     (matches-enum-known-r-2 t)
     (matches-enum-told-2 t)
-    (matches-same-length t)
-    (matches-returns-2 t)
-    (matches-open-requires t)
-    (matches-enum-known-r-3 t)
-    (matches-enum-told-3 t)
     (matches-same-length-2 t)
-    (matches-returns-3 t)
+    (matches-returns-2 t)
     (matches-opened-requires t)
     (matches-arms-requires t)
     (matches-same-length-3 t)
-    (matches-returns-4 t))
+    (matches-returns-3 t))
     (λ t. negate-lts.spec (
       deeper-reads.Asked,
       deeper-reads.Learnt,
@@ -1158,7 +1133,7 @@ pub +access+args+arm+arms+assign+atom+binop+block+body+braces+call+cond+elses+ex
     (rets-returns-2 t)
     (rets-mul-starts t)
     (rets-array-write-starts t)
-    (rets-mul-details t)
+    (rets-cast-details t)
     (rets-array-write-details t)
     (rets-add-count t)
     (rets-loop-less t)
@@ -1273,16 +1248,8 @@ pub +access+args+arm+arms+assign+atom+binop+block+body+braces+call+cond+elses+ex
     (tighter-same-length-3 t)
     (tighter-returns-3 t))
     λ t. whiles-lts.spec (
-      unchained-reads.Asked,
-      unchained-reads.Learnt,
-      deeper-reads.Asked,
-      deeper-reads.Learnt,
-      headed-reads.Asked,
-      headed-reads.Learnt,
-      expr-below t,
-      expr.Post,
-      block-below t,
-      block.Post,
+      cond-below t,
+      cond.Post,
       plain-row-reads.Asked,
       plain-row-reads.Learnt,
       finish-reads.Asked,
@@ -1290,23 +1257,12 @@ pub +access+args+arm+arms+assign+atom+binop+block+body+braces+call+cond+elses+ex
     )
     (whiles-at t)
     whiles.Post
-    (whiles-unchained-requires t)
-    (whiles-deeper-requires t)
+    (whiles-cond-requires t)
     (whiles-enum-known-r t)
     (whiles-enum-told t)
-    (whiles-returns t)
-    (whiles-headed-requires t)
-    (whiles-expr-requires t)
-    (whiles-enum-known-r-2 t)
-    (whiles-enum-told-2 t)
     (whiles-same-length t)
-    (whiles-returns-2 t)
-    (whiles-block-requires t)
-    (whiles-enum-known-r-3 t)
-    (whiles-enum-told-3 t)
-    (whiles-same-length-2 t)
-    (whiles-returns-3 t)
+    (whiles-returns t)
     (whiles-plain-row-requires t)
     (whiles-finish-requires t)
-    (whiles-same-length-3 t)
-    (whiles-returns-4 t)
+    (whiles-same-length-2 t)
+    (whiles-returns-2 t)

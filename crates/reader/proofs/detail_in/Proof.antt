@@ -1,16 +1,17 @@
 use mathlib.Core.Path.{sym}
 use lib.ListN.{List·getD-eq-default}
+use native.Mathlib.Omega.{arith}
 use borrow.Author.Needs.{needs}
 use Rattle.reader.proofs.detail_in.Statement.{statement}
 use Rattle.reader.proofs.detail_in.Tie as tie
 use Rattle.reader.proofs.detail_in.Reads as reads
 use Rattle.reader.proofs.detail_in.Lts as lts
 
-mul-result : tie.Need-mul-result
-mul-result c = search needs
-
 shared-slice-read-result : tie.Need-shared-slice-read-result
 shared-slice-read-result c = search needs
+
+cast-result : tie.Need-cast-result
+cast-result c = omega (arith, c .shared-slice-known .given (c .before .before .args .i))
 
 returns : tie.Need-returns
 returns c = search needs
@@ -19,4 +20,4 @@ returns-2 : tie.Need-returns-2
 returns-2 c = sym (List·getD-eq-default (c .before .args .list .now) 0 (c .if1 .left))
 
 pub detail-in-spec : {M : Type 1} → statement M
-detail-in-spec = tie.close (tie.spec mul-result shared-slice-read-result returns returns-2)
+detail-in-spec = tie.close (tie.spec shared-slice-read-result cast-result returns returns-2)

@@ -1,32 +1,29 @@
-use borrow.Author.Needs.{needs}
 use native.Mathlib.Omega.{arith}
-use Prim.Native.Nat.{ℕ}
-use Rattle.parser.specs.declared.Limits.{Limits}
 use mathlib.Core.Path.{ap, _∙_}
-use Rattle.parser.proofs.Standing.{next-small}
-use Rattle.promises.proofs.Alternatives.{four-match-on}
+use Rattle.parser.specs.declared.Limits.{Limits}
 use Rattle.promises.proofs.Answered.{further}
-use Rattle.promises.proofs.Heads.{under-past, opening-past, head-on, head-off, head-expr-fails, match-fails, match-ends}
+use Rattle.promises.proofs.Operands.{place-near}
+use Rattle.promises.proofs.Heads.{heads, opening-past, match-expr-fails, match-fails, match-ends}
+use borrow.Author.Needs.{needs}
+use Prim.Native.Nat.{ℕ}
 use Rattle.reader.proofs.arms.Reads as arms
 use Rattle.reader.proofs.expr.Reads as expr
-use Rattle.reader.proofs.matches.Reads as matches
-use Rattle.reader.proofs.+access+args+arm+arms+assign+atom+binop+block+body+braces+call+cond+elses+expr+field+for_in+four+guard+if_else+lets+matches+negate+operand+parens+pathed+postfix+record+ret+rets+stmt+stmts+tighter+whiles.Lts-matches as matches-lts
 use Rattle.parser.proofs.Limits.headed.Reads as headed-reads
-use Rattle.parser.proofs.Limits.opened.Reads as opened-reads
-use Rattle.parser.proofs.Limits.unchained.Reads as unchained-reads
-use Rattle.parser.proofs.deeper.Reads as deeper-reads
+use Rattle.reader.proofs.matches.Reads as matches
 use Rattle.parser.proofs.open.Reads as open-reads
+use Rattle.parser.proofs.Limits.opened.Reads as opened-reads
+use Rattle.reader.proofs.+access+args+arm+arms+assign+atom+binop+block+body+braces+call+cond+elses+expr+field+for_in+four+guard+if_else+lets+matches+negate+operand+parens+pathed+postfix+record+ret+rets+stmt+stmts+tighter+whiles.Lts-matches as matches-lts
 use Rattle.reader.proofs.+access+args+arm+arms+assign+atom+binop+block+body+braces+call+cond+elses+expr+field+for_in+four+guard+if_else+lets+matches+negate+operand+parens+pathed+postfix+record+ret+rets+stmt+stmts+tighter+whiles.Proof.Measures.{arms-below, expr-below, matches-at}
 
 module _ (t : ℕ) where
   abbrev told : matches-lts.Claims
-  told = (unchained-reads.Asked, unchained-reads.Learnt, deeper-reads.Asked, deeper-reads.Learnt, headed-reads.Asked, headed-reads.Learnt, expr-below t, expr.Post, open-reads.Asked, open-reads.Learnt, opened-reads.Asked, opened-reads.Learnt, arms-below t, arms.Post)
+  told = (headed-reads.Asked, headed-reads.Learnt, expr-below t, expr.Post, open-reads.Asked, open-reads.Learnt, opened-reads.Asked, opened-reads.Learnt, arms-below t, arms.Post)
 
-  pub matches-unchained-requires : matches-lts.Need-unchained-requires told (matches-at t) matches.Post
-  matches-unchained-requires c κs = search needs
+  pub matches-headed-requires : matches-lts.Need-headed-requires told (matches-at t) matches.Post
+  matches-headed-requires c κs = search needs
 
-  pub matches-deeper-requires : matches-lts.Need-deeper-requires told (matches-at t) matches.Post
-  matches-deeper-requires c κs = search needs
+  pub matches-expr-requires : matches-lts.Need-expr-requires told (matches-at t) matches.Post
+  matches-expr-requires c κs = (omega (arith, c .before .before .before .before .pre .0), c .before .before .before .before .pre .1)
 
   pub matches-enum-known-r : matches-lts.Need-enum-known-r told (matches-at t) matches.Post
   matches-enum-known-r c = search needs
@@ -34,14 +31,14 @@ module _ (t : ℕ) where
   pub matches-enum-told : matches-lts.Need-enum-told told (matches-at t) matches.Post
   matches-enum-told c = search needs
 
+  pub matches-same-length : matches-lts.Need-same-length told (matches-at t) matches.Post
+  matches-same-length c = c .before .before .before .table .given
+
   pub matches-returns : matches-lts.Need-returns told (matches-at t) matches.Post
-  matches-returns c = head-off (c .before .before .before .before .before .before .pre .1 .0) (c .before .before .before .unchained .ensures) (c .before .before .deeper .ensures) four-match-on tt (c .before .before .before .before .before .before .pre .1 .1) (c .enum-told .given .1)
+  matches-returns c = heads λ f q b. match-expr-fails q (c .before .before .before .before .before .headed .ensures) b (c .before .before .before .before .expr .ensures) (c .enum-told .given .1)
 
-  pub matches-headed-requires : matches-lts.Need-headed-requires told (matches-at t) matches.Post
-  matches-headed-requires c κs = search needs
-
-  pub matches-expr-requires : matches-lts.Need-expr-requires told (matches-at t) matches.Post
-  matches-expr-requires c κs = let x = under-past 73 _ (c .before .before .before .before .before .before .before .before .before .pre .1 .0) tt (c .before .before .before .before .before .before .before .before .before .pre .1 .1) (c .before .before .before .before .before .deeper .ensures) (c .before .before .before .r .given .1) in (omega (arith, x .1, next-small (x .0), x .0 .short, c .before .before .before .before .before .before .before .before .before .pre .0), x .0)
+  pub matches-open-requires : matches-lts.Need-open-requires told (matches-at t) matches.Post
+  matches-open-requires c κs = search needs
 
   pub matches-enum-known-r-2 : matches-lts.Need-enum-known-r-2 told (matches-at t) matches.Post
   matches-enum-known-r-2 c = search needs
@@ -49,35 +46,20 @@ module _ (t : ℕ) where
   pub matches-enum-told-2 : matches-lts.Need-enum-told-2 told (matches-at t) matches.Post
   matches-enum-told-2 c = search needs
 
-  pub matches-same-length : matches-lts.Need-same-length told (matches-at t) matches.Post
-  matches-same-length c = c .before .before .before .before .expr .kept .1 .0
+  pub matches-same-length-2 : matches-lts.Need-same-length-2 told (matches-at t) matches.Post
+  matches-same-length-2 c = c .before .before .before .before .before .before .before .table .given
 
   pub matches-returns-2 : matches-lts.Need-returns-2 told (matches-at t) matches.Post
-  matches-returns-2 c = head-expr-fails (c .before .before .before .before .before .headed .ensures) (c .before .before .before .before .expr .ensures) (head-on (c .before .before .before .before .before .before .before .before .before .before .before .before .before .before .pre .1 .0) (c .before .before .before .before .before .before .before .before .before .before .before .unchained .ensures) (c .before .before .before .before .before .before .before .before .before .before .deeper .ensures) four-match-on tt (c .before .before .before .before .before .before .before .before .before .before .before .before .before .before .pre .1 .1) (c .before .before .before .before .before .before .before .before .r .given .1)) (c .enum-told2 .given .1)
-
-  pub matches-open-requires : matches-lts.Need-open-requires told (matches-at t) matches.Post
-  matches-open-requires c κs = search needs
-
-  pub matches-enum-known-r-3 : matches-lts.Need-enum-known-r-3 told (matches-at t) matches.Post
-  matches-enum-known-r-3 c = search needs
-
-  pub matches-enum-told-3 : matches-lts.Need-enum-told-3 told (matches-at t) matches.Post
-  matches-enum-told-3 c = search needs
-
-  pub matches-same-length-2 : matches-lts.Need-same-length-2 told (matches-at t) matches.Post
-  matches-same-length-2 c = c .before .before .before .before .before .before .before .before .expr .kept .1 .0
-
-  pub matches-returns-3 : matches-lts.Need-returns-3 told (matches-at t) matches.Post
-  matches-returns-3 c = match-fails (c .before .before .before .before .before .before .before .before .before .headed .ensures) (head-on (c .before .before .before .before .before .before .before .before .before .before .before .before .before .before .before .before .before .before .pre .1 .0) (c .before .before .before .before .before .before .before .before .before .before .before .before .before .before .before .unchained .ensures) (c .before .before .before .before .before .before .before .before .before .before .before .before .before .before .deeper .ensures) four-match-on tt (c .before .before .before .before .before .before .before .before .before .before .before .before .before .before .before .before .before .before .pre .1 .1) (c .before .before .before .before .before .before .before .before .before .before .before .before .r .given .1)) (c .before .before .before .before .before .before .before .before .expr .ensures) (c .before .before .before .before .r2 .given .1) (c .before .before .«open» .ensures) (c .enum-told3 .given .1)
+  matches-returns-2 c = heads λ f q b. match-fails q (c .before .before .before .before .before .before .before .before .before .headed .ensures) b (c .before .before .before .before .before .before .before .before .expr .ensures) (c .before .before .before .before .r .given .1) (c .before .before .«open» .ensures) (c .enum-told2 .given .1)
 
   pub matches-opened-requires : matches-lts.Need-opened-requires told (matches-at t) matches.Post
   matches-opened-requires c κs = search needs
 
   pub matches-arms-requires : matches-lts.Need-arms-requires told (matches-at t) matches.Post
-  matches-arms-requires c κs = let x = under-past 73 _ (c .before .before .before .before .before .before .before .before .before .before .before .before .before .before .before .before .before .before .before .before .before .pre .1 .0) tt (c .before .before .before .before .before .before .before .before .before .before .before .before .before .before .before .before .before .before .before .before .before .pre .1 .1) (c .before .before .before .before .before .before .before .before .before .before .before .before .before .before .before .before .before .deeper .ensures) (c .before .before .before .before .before .before .before .before .before .before .before .before .before .before .before .r .given .1) in let y = further (c .before .before .before .before .before .before .before .before .before .before .before .expr .ensures) (c .before .before .before .before .before .before .before .r2 .given .1) in let z = opening-past 40 _ (y .stands) tt (c .before .before .before .before .before .«open» .ensures) (c .before .before .before .r3 .given .1) in (omega (arith, x .1, y .next, z .1, next-small (z .0), z .0 .short, c .before .before .before .before .before .before .before .before .before .before .before .before .before .before .before .before .before .before .before .before .before .pre .0), (z .0, ap (λ (l : Limits). l .signs) (c .opened .ensures)))
+  matches-arms-requires c κs = let y = further (c .before .before .before .before .before .before .before .before .before .before .before .expr .ensures) (c .before .before .before .before .before .before .before .r .given .1) in let z = opening-past 40 _ (y .stands) tt (c .before .before .before .before .before .«open» .ensures) (c .before .before .before .r2 .given .1) in (omega (arith, y .next, z .1, place-near (z .0), c .before .before .before .before .before .before .before .before .before .before .before .before .before .before .before .before .pre .0), (z .0, ap (λ (l : Limits). l .signs) (c .opened .ensures)))
 
   pub matches-same-length-3 : matches-lts.Need-same-length-3 told (matches-at t) matches.Post
-  matches-same-length-3 c = c .before .before .arms .kept .1 .0 ∙ c .before .before .before .before .before .before .before .before .before .before .before .before .before .before .expr .kept .1 .0
+  matches-same-length-3 c = c .before .table2 .given ∙ c .before .before .before .before .before .before .before .before .before .before .before .before .before .table .given
 
-  pub matches-returns-4 : matches-lts.Need-returns-4 told (matches-at t) matches.Post
-  matches-returns-4 c = match-ends (c .before .before .before .before .before .before .before .before .before .before .before .before .before .before .before .headed .ensures) (head-on (c .before .before .before .before .before .before .before .before .before .before .before .before .before .before .before .before .before .before .before .before .before .before .before .before .pre .1 .0) (c .before .before .before .before .before .before .before .before .before .before .before .before .before .before .before .before .before .before .before .before .before .unchained .ensures) (c .before .before .before .before .before .before .before .before .before .before .before .before .before .before .before .before .before .before .before .before .deeper .ensures) four-match-on tt (c .before .before .before .before .before .before .before .before .before .before .before .before .before .before .before .before .before .before .before .before .before .before .before .before .pre .1 .1) (c .before .before .before .before .before .before .before .before .before .before .before .before .before .before .before .before .before .before .r .given .1)) (c .before .before .before .before .before .before .before .before .before .before .before .before .before .before .expr .ensures) (c .before .before .before .before .before .before .before .before .before .before .r2 .given .1) (c .before .before .before .before .before .before .before .before .«open» .ensures) (c .before .before .before .before .before .before .r3 .given .1) (c .before .before .before .opened .ensures) (c .before .before .arms .ensures)
+  pub matches-returns-3 : matches-lts.Need-returns-3 told (matches-at t) matches.Post
+  matches-returns-3 c = heads λ f q b. match-ends q (c .before .before .before .before .before .before .before .before .before .before .before .before .before .before .before .headed .ensures) b (c .before .before .before .before .before .before .before .before .before .before .before .before .before .before .expr .ensures) (c .before .before .before .before .before .before .before .before .before .before .r .given .1) (c .before .before .before .before .before .before .before .before .«open» .ensures) (c .before .before .before .before .before .before .r2 .given .1) (c .before .before .before .opened .ensures) (c .before .before .arms .ensures)

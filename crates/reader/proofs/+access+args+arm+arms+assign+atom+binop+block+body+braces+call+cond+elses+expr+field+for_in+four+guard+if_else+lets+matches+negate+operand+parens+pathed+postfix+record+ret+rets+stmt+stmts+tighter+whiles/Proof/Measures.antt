@@ -114,7 +114,7 @@ abbrev pub μ-field : Measures 2 field-kinds.ps ℕ
 μ-field κs a = (70000 - a .1 .1 .0 .next) * 64 + 32
 
 abbrev pub μ-for-in : Measures 2 for-in-kinds.ps ℕ
-μ-for-in κs a = (70000 - a .1 .1 .0 .next) * 64 + 12
+μ-for-in κs a = (70000 - a .1 .1 .0 .next) * 64 + 32
 
 abbrev pub μ-four : Measures 2 four-kinds.ps ℕ
 μ-four κs a = (70000 - a .1 .1 .0 .next) * 64 + 13
@@ -129,7 +129,7 @@ abbrev pub μ-lets : Measures 2 lets-kinds.ps ℕ
 μ-lets κs a = (70000 - a .1 .1 .0 .next) * 64 + 33
 
 abbrev pub μ-matches : Measures 2 matches-kinds.ps ℕ
-μ-matches κs a = (70000 - a .1 .1 .0 .next) * 64 + 12
+μ-matches κs a = (70000 - a .1 .1 .0 .next) * 64 + 32
 
 abbrev pub μ-negate : Measures 2 negate-kinds.ps ℕ
 μ-negate κs a = (70000 - a .1 .1 .0 .next) * 64 + 16
@@ -165,7 +165,7 @@ abbrev pub μ-tighter : Measures 2 tighter-kinds.ps ℕ
 μ-tighter κs a = (70000 - a .1 .1 .0 .next) * 64 + (27 - 2 * a .1 .1 .1 .1 .1 .0)
 
 abbrev pub μ-whiles : Measures 2 whiles-kinds.ps ℕ
-μ-whiles κs a = (70000 - a .1 .1 .0 .next) * 64 + 12
+μ-whiles κs a = (70000 - a .1 .1 .0 .next) * 64 + 32
 
 abbrev pub access-at : ℕ → In 2 access-kinds.ps
 access-at t = and 2 access-kinds.ps (is 2 access-kinds.ps μ-access t) access.Pre

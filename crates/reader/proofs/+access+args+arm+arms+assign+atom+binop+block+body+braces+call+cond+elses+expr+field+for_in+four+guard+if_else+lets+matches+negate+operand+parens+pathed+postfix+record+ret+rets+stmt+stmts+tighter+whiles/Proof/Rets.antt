@@ -1,9 +1,8 @@
-use Rattle.promises.proofs.Returns.{Returns, return-there, return-elsewhere, returns-begin, returns-deep, returns-behind, returns-end, returns-on}
 use native.Mathlib.Omega.{arith}
 use Rattle.promises.proofs.Answered.{kept-either}
 use mathlib.Core.Path.{refl}
 use Prim.Native.Nat.{_-_}
-use Rattle.promises.proofs.Returns.{Returns, returns-begin, returns-deep, returns-behind, returns-end, returns-on}
+use Rattle.promises.proofs.Returns.{Returns, return-small, return-there, return-elsewhere, returns-begin, returns-deep, returns-behind, returns-end, returns-on}
 use borrow.Author.Needs.{needs}
 use Prim.Native.Nat.{ℕ}
 use Rattle.reader.proofs.around.Reads as around-reads
@@ -76,8 +75,8 @@ module _ (t : ℕ) where
   pub rets-array-write-starts : rets-lts.Need-array-write-starts told (rets-at t) rets.Post rets-Inv-loop rets-μ-loop
   rets-array-write-starts c = let x = (returns-behind (c .before .before .before .before .before .before .before .before .loop .inv) (c .before .before .before .before .before .before .before .deeper .ensures) (c .before .before .before .before .before .r .given .1)) in omega (arith, x .3)
 
-  pub rets-mul-details : rets-lts.Need-mul-details told (rets-at t) rets.Post rets-Inv-loop rets-μ-loop
-  rets-mul-details c = let x = (returns-behind (c .before .before .before .before .before .before .before .before .loop .inv) (c .before .before .before .before .before .before .before .deeper .ensures) (c .before .before .before .before .before .r .given .1)) in omega (arith, x .3)
+  pub rets-cast-details : rets-lts.Need-cast-details told (rets-at t) rets.Post rets-Inv-loop rets-μ-loop
+  rets-cast-details c = let x = return-small (c .before .before .before .before .before .before .before .before .loop .inv .stands) (c .before .before .before .return-detail .ensures) in omega (arith, x)
 
   pub rets-array-write-details : rets-lts.Need-array-write-details told (rets-at t) rets.Post rets-Inv-loop rets-μ-loop
   rets-array-write-details c = let x = (returns-behind (c .before .before .before .before .before .before .before .before .loop .inv) (c .before .before .before .before .before .before .before .deeper .ensures) (c .before .before .before .before .before .r .given .1)) in omega (arith, x .3)
