@@ -4,7 +4,7 @@
  * not be null or unaligned, also for 0 elements, and nothing is kept of it. No function allocates, fails or asks anything of the bytes.
  * What each says is proved.
  *
- * (a) and (b) call themselves as deep as a source nests: a few thousand bytes of stack for most, 979 KiB for one that nests at all limits
+ * (a) and (b) call themselves as deep as a source nests: 9 to 16 KiB of stack for filters of a few levels, 979 KiB for one that nests at all limits
  * at once (docs/ARCHITECTURE.md, "Stack"). A thread with 1 MiB of stack can read what strangers wrote.
  *
  * An answer is four numbers: the number of docs (README.md), where its place starts and ends, and a count: the rows or

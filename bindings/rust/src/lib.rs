@@ -14,7 +14,7 @@ mod c {
 /// Rows that are enough for any source.
 pub const MOST_ROWS: usize = 98_304;
 
-/// Bytes of stack that are enough for any source. Most sources take a few thousand; only nesting at all limits takes this.
+/// Bytes of stack that are enough for any source. A filter of a few levels takes 9 to 16 KiB; only nesting at all limits takes this.
 pub const MOST_STACK: usize = 1 << 20;
 
 /// Six numbers: kind, start, end, children, value, detail.

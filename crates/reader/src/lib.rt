@@ -704,6 +704,7 @@ fn tighter(
     ensures { λ r. ⌜ Answers (the (now (s .entry)) (counts limits) (LEVEL (level + 1) records) here (now (table .entry))) 1 r (now (table .exit)) ⌝ }
 {
     if 5 <= level {
+        // As `operand` chooses; if that were called here, each sign would take more stack.
         if is_sign(here.word) {
             return negate(s, table, here, limits, records);
         }
