@@ -25,30 +25,36 @@ use Rattle.parser.specs.declared.Read.{Read}
 use Rattle.parser.specs.declared.Read.the-variants.{Done, Refused}
 use Rattle.parser.specs.Places.{later, under, nodeOf}
 use Rattle.parser.specs.Counted.{counts, signed}
-use Rattle.parser.specs.Going.{Stands, many, Going, Answers}
+use Rattle.parser.specs.Going.{Stands, many, Phrase, Going, Answers}
 use Rattle.parser.proofs.Laws.{bump-more}
 use Rattle.parser.proofs.Going.{at, out, stopped}
 use Rattle.parser.proofs.Steps.{under-done}
 use Rattle.promises.specs.Firsts.{exprFirsts, endsReturn, returnRow}
-use Rattle.promises.specs.Promises.{the, Last, overRead, overTable}
+use Rattle.promises.specs.Promises.{the, overRead, overTable}
 use Rattle.promises.proofs.Alternatives.{within, rest-expr}
 use Rattle.promises.proofs.Answered.{finished}
 use Rattle.promises.proofs.Exprs.{goes-on, is-return, no-return, returned-none, returned-some, return-deep, return-goes}
 use Rattle.promises.proofs.Heads.{reads-it, refuses-it}
 use Rattle.promises.proofs.Overs.{Over, over-none, over-refused, over-ends, over-deeper, pushed-set}
 
--- the last, from behind its word on
+-- A return form from behind its word on, if no other stands there.
+abbrev Last : List ℕ → Here → List ℕ → Limits → Bool → Node → ℕ → Read → List ℕ → Type 0
+Last s h t l b m detail r t′ =
+    (f : Phrase) (w : ℕ) → f .text ≡ s → detail ≡ detail-for 27 w
+    → Going f (at (counts l) (a (RETURNED b) ∷ row 27 ∷ []) ∷ []) h t (many (m .start) (m .end) 0 (some w)) 0 4
+    → Answers f 1 r t′
+
 module _ (l : Limits) (b : Bool) (x : Node) (j : ℕ) {s : List ℕ} {z : Here} {t : List ℕ} where
-  pub last-ends : {r : Read} {t′ : List ℕ} → T (endsReturn (z .word) b) → r ≡ Done (nodeOf (returnRow (x .start) (x .end) 0 j)) (later z) → t′ ≡ putRow t (z .rows) (returnRow (x .start) (x .end) 0 j) → Last s z t l b x j r t′
+  last-ends : {r : Read} {t′ : List ℕ} → T (endsReturn (z .word) b) → r ≡ Done (nodeOf (returnRow (x .start) (x .end) 0 j)) (later z) → t′ ≡ putRow t (z .rows) (returnRow (x .start) (x .end) 0 j) → Last s z t l b x j r t′
   unfolding inside
   last-ends e o y f w q v g = finished (out (returned-none b e g)) (omega arith) refl refl (ap (returnRow (x .start) (x .end) 0) v) o y
 
   module _ (n : T (endsReturn (z .word) b) → ⊥) {r : Read} {t′ : List ℕ} (u : Answers (the s (counts l) (EXPR b) z t) 1 r t′) where
-    pub last-fails : {e : Refusal} → r ≡ Refused e → Last s z t l b x j r t′
+    last-fails : {e : Refusal} → r ≡ Refused e → Last s z t l b x j r t′
     unfolding inside
     last-fails e f w q v g = stopped e (refuses-it q refl u (returned-some b n g) e)
 
-    pub last-valued : {m : Node} {h : Here} {r′ : Read} {t″ : List ℕ} → r ≡ Done m h → r′ ≡ Done (nodeOf (returnRow (x .start) (m .end) 1 j)) (later h) → t″ ≡ putRow t′ (h .rows) (returnRow (x .start) (m .end) 1 j) → Last s z t l b x j r′ t″
+    last-valued : {m : Node} {h : Here} {r′ : Read} {t″ : List ℕ} → r ≡ Done m h → r′ ≡ Done (nodeOf (returnRow (x .start) (m .end) 1 j)) (later h) → t″ ≡ putRow t′ (h .rows) (returnRow (x .start) (m .end) 1 j) → Last s z t l b x j r′ t″
     unfolding inside
     last-valued {m = m} e o y f w q v g = finished (out (reads-it q refl u (returned-some b n g) (rest-expr b) e)) (omega arith) refl refl (ap (returnRow (x .start) (m .end) 1) v) o y
 
@@ -101,8 +107,20 @@ module _ {s : List ℕ} {b : Bool} {l₀ : Limits} {h₀ : Here} {t₀ starts de
     pub returns-behind : Stands s z × (h .next < z .next) × (h .next < 65537) × (n < 32)
     returns-behind = let y = goes-on goes (omega arith) in let k = under-done s h (l .signs) p q .0 in let f = w .few in (goes .stands, y .0, y .1, omega (arith, k, f))
 
-    pub returns-end : {l′ : Limits} {j : ℕ} {r₁ r₂ : Read} {t₁ t₂ : List ℕ} → l′ ≡ signed l → j ≡ detail-for 27 (h .word) → Last s z t l′ b x j r₁ t₁ → r₂ ≡ overRead starts details 27 1 n r₁ → t₂ ≡ overTable starts details 27 1 n r₁ t₁ → Answers (the s (counts l₀) (EXPR b) h₀ t₀) 1 r₂ t₂
-    returns-end {l′} i v u o y = over-ends (w .over) (u (the s (counts l) (EXPR b) h t) (h .word) refl v (subst (λ (k : Limits). Going (the s (counts l) (EXPR b) h t) (at (counts k) (a (RETURNED b) ∷ row 27 ∷ []) ∷ []) z t (many (x .start) (x .end) 0 (some (h .word))) 0 4) (sym i) goes)) o y
+    -- the last of them: without an expr; with one that fails, or one that was read
+    module _ {l′ : Limits} {j : ℕ} (i : l′ ≡ signed l) (v : j ≡ detail-for 27 (h .word)) where
+      innermost : {r₁ : Read} {t₁ : List ℕ} → Last s z t l′ b x j r₁ t₁ → Answers (the s (counts l) (EXPR b) h t) 1 r₁ t₁
+      innermost u = u (the s (counts l) (EXPR b) h t) (h .word) refl v (subst (λ (k : Limits). Going (the s (counts l) (EXPR b) h t) (at (counts k) (a (RETURNED b) ∷ row 27 ∷ []) ∷ []) z t (many (x .start) (x .end) 0 (some (h .word))) 0 4) (sym i) goes)
+
+      pub returns-bare : {r₁ r₂ : Read} {t₁ t₂ : List ℕ} → T (endsReturn (z .word) b) → r₁ ≡ Done (nodeOf (returnRow (x .start) (x .end) 0 j)) (later z) → t₁ ≡ putRow t (z .rows) (returnRow (x .start) (x .end) 0 j) → r₂ ≡ overRead starts details 27 1 n r₁ → t₂ ≡ overTable starts details 27 1 n r₁ t₁ → Answers (the s (counts l₀) (EXPR b) h₀ t₀) 1 r₂ t₂
+      returns-bare e o y o′ y′ = over-ends (w .over) (innermost (last-ends l′ b x j e o y)) o′ y′
+
+      module _ (m : T (endsReturn (z .word) b) → ⊥) {r₁ : Read} {t₁ : List ℕ} (u : Answers (the s (counts l′) (EXPR b) z t) 1 r₁ t₁) where
+        pub returns-fails : {e : Refusal} → r₁ ≡ Refused e → Answers (the s (counts l₀) (EXPR b) h₀ t₀) 1 r₁ t₁
+        returns-fails e = over-refused (w .over) (innermost (last-fails l′ b x j m u e)) e
+
+        pub returns-valued : {m₁ : Node} {h₁ : Here} {r₂ r₃ : Read} {t₂ t₃ : List ℕ} → r₁ ≡ Done m₁ h₁ → r₂ ≡ Done (nodeOf (returnRow (x .start) (m₁ .end) 1 j)) (later h₁) → t₂ ≡ putRow t₁ (h₁ .rows) (returnRow (x .start) (m₁ .end) 1 j) → r₃ ≡ overRead starts details 27 1 n r₂ → t₃ ≡ overTable starts details 27 1 n r₂ t₂ → Answers (the s (counts l₀) (EXPR b) h₀ t₀) 1 r₃ t₃
+        returns-valued e o y o′ y′ = over-ends (w .over) (innermost (last-valued l′ b x j m u e o y)) o′ y′
 
     pub returns-on : {l′ : Limits} {j : ℕ} {starts′ details′ : List ℕ} → T (one-of (z .word) return-words) → l′ ≡ signed l → j ≡ detail-for 27 (h .word) → starts′ ≡ set starts n (x .start) → details′ ≡ set details n j → Returns s b l₀ h₀ t₀ starts′ details′ (n + 1) l′ z t
     returns-on {l′} {j} {starts′} {details′} m i v c d =

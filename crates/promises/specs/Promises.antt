@@ -159,13 +159,6 @@ overTable starts details k c zero r t = t
 overTable starts details k c (suc n) (Done m h) t = overTable starts details k c n (Done (nodeOf (overRow starts details k c n m)) (later h)) (putRow t (h .rows) (overRow starts details k c n m))
 overTable starts details k c (suc n) (Refused e) t = t
 
--- A return form from behind its word on, if no other stands there.
-abbrev pub Last : List ℕ → Here → List ℕ → Limits → Bool → Node → ℕ → Read → List ℕ → Type 0
-Last s h t l b m detail r t′ =
-    (f : Phrase) (w : ℕ) → f .text ≡ s → detail ≡ detail-for 27 w
-    → Going f (at (counts l) (a (RETURNED b) ∷ row 27 ∷ []) ∷ []) h t (many (m .start) (m .end) 0 (some w)) 0 4
-    → Answers f 1 r t′
-
 -- An `if`, `while`, `for` or `match` from behind that word, which starts at `start`, to its end; ss is what its rule asks for then.
 abbrev pub Headed : List Symbol → List ℕ → Here → List ℕ → Limits → ℕ → Read → List ℕ → Type 0
 Headed ss s h t l start r t′ =

@@ -18,7 +18,7 @@ ghost use Rattle.parser.specs.Places.{later, nodeOf, plainRow};
 ghost use Rattle.parser.specs.Counted.{counts};
 ghost use Rattle.parser.specs.Going.{Stands, Answers};
 ghost use Rattle.promises.specs.Firsts.{postfixSigns, closingOf, signWords, detailRow, returnRow, armEnd, childless, undotted, onward, few};
-ghost use Rattle.promises.specs.Promises.{the, Anyhow, Partly, itemRow, wrote, Closed, Listed, Typing, Guarded, Grouped, LEVEL, Atom, Behind, AnyBehind, Fielded, Headed, afterIf, afterWhile, afterFor, afterMatch, Tested, Elsed, linked, Last, overRead, overTable, Matched, Armed, Bodied, Stated, Statement, Beyond, Finished};
+ghost use Rattle.promises.specs.Promises.{the, Anyhow, Partly, itemRow, wrote, Closed, Listed, Typing, Guarded, Grouped, LEVEL, Atom, Behind, AnyBehind, Fielded, Headed, afterIf, afterWhile, afterFor, afterMatch, Tested, Elsed, linked, overRead, overTable, Matched, Armed, Bodied, Stated, Statement, Beyond, Finished};
 use parser::Here;
 use parser::Limits;
 use parser::Node;
@@ -587,7 +587,8 @@ fn assigned(table: &mut [u64], left: Node, right: Node, word: u64, here: Here) -
     finish(table, row, here)
 }
 
-// Any number of `return`, `accept`, `reject`: where one stands behind another, its row is over that one's.
+// Any number of `return`, `accept`, `reject`: where one stands behind another, its row is over that one's. The last takes an expr
+// exactly when the next token can begin one; where no record may stand, `{` has to follow, which begins one.
 fn rets(s: &[u8], table: &mut [u64], at: Here, limits: Limits, records: bool) -> Read
     requires { ⌜ (Stands (now s) at) × (T (one-of (at .word) return-words)) ⌝ }
     ensures { λ r. ⌜ Answers (the (now (s .entry)) (counts limits) (EXPR records) at (now (table .entry))) 1 r (now (table .exit)) ⌝ }
@@ -604,8 +605,16 @@ fn rets(s: &[u8], table: &mut [u64], at: Here, limits: Limits, records: bool) ->
         };
         let detail = return_detail(here.word);
         inner = inner.signed();
+        if ends_return(next.word, records) {
+            let r = returned(table, word.start, word.end, 0, detail, next);
+            return around(table, &starts, &details, count, 27, 1, r);
+        }
         if return_detail(next.word) == 0 {
-            let r = ret(s, table, next, inner, records, word, detail);
+            let r = assign(s, table, next, inner, records);
+            let Read::Done(value, behind) = r else {
+                return r;
+            };
+            let r = returned(table, word.start, value.end, 1, detail, behind);
             return around(table, &starts, &details, count, 27, 1, r);
         }
         starts[count] = word.start;
@@ -613,30 +622,6 @@ fn rets(s: &[u8], table: &mut [u64], at: Here, limits: Limits, records: bool) ->
         count += 1;
         here = next;
     }
-}
-
-// The last of them, from behind its word on: with an expr exactly when the next token can begin one; where no record may
-// stand, `{` has to follow, which begins one.
-fn ret(
-    s: &[u8],
-    table: &mut [u64],
-    here: Here,
-    limits: Limits,
-    records: bool,
-    word: Node,
-    detail: u64,
-) -> Read
-    requires { ⌜ (Stands (now s) here) × (T (one-of (here .word) return-words) → ⊥) ⌝ }
-    ensures { λ r. ⌜ Last (now (s .entry)) here (now (table .entry)) limits records word detail r (now (table .exit)) ⌝ }
-{
-    if ends_return(here.word, records) {
-        return returned(table, word.start, word.end, 0, detail, here);
-    }
-    let r = assign(s, table, here, limits, records);
-    let Read::Done(value, next) = r else {
-        return r;
-    };
-    returned(table, word.start, value.end, 1, detail, next)
 }
 
 fn returned(
@@ -777,6 +762,7 @@ fn access(s: &[u8], table: &mut [u64], at: Here, limits: Limits, records: bool) 
     Read::Done(left, here)
 }
 
+// What may stand behind an atom: `?`, `( list of exprs )`, `. name`.
 fn postfix(s: &[u8], table: &mut [u64], left: Node, here: Here, limits: Limits) -> Read
     requires { ⌜ (Stands (now s) here) × (T (one-of (here .word) postfixSigns)) ⌝ }
     ensures { λ r. ⌜ (Behind (now (s .entry)) left here (now (table .entry)) limits r (now (table .exit))) × (onward here r) ⌝ }
@@ -784,16 +770,9 @@ fn postfix(s: &[u8], table: &mut [u64], left: Node, here: Here, limits: Limits) 
     if here.word == QUESTION {
         return question(s, table, left, here, 25);
     }
-    if here.word == OPEN_PAREN {
-        return call(s, table, left, here, limits);
+    if here.word != OPEN_PAREN {
+        return field_access(s, table, left, here);
     }
-    field_access(s, table, left, here)
-}
-
-fn call(s: &[u8], table: &mut [u64], left: Node, here: Here, limits: Limits) -> Read
-    requires { ⌜ (Stands (now s) here) × (here .word ≡ 42) ⌝ }
-    ensures { λ r. ⌜ (Behind (now (s .entry)) left here (now (table .entry)) limits r (now (table .exit))) × (onward here r) ⌝ }
-{
     let r = args(s, table, here, limits);
     let Read::Done(list, next) = r else {
         return r;
