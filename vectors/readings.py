@@ -1,6 +1,6 @@
 """readings.py DEEPEST RECORDED ..: cases of entries (a) and (b) in the form of the drivers: document 01's worked pairs and its printer's
-source, each form, literals, the limits alone and together, the longest sources, the one that nests deepest, little room, and the
-short ones among recorded cases."""
+source, each form, literals with every suffix and at the edges of every type, the limits alone and together, the longest sources, the one
+that nests deepest, little room, and the short ones among recorded cases."""
 import itertools, sys
 
 LONGEST, ROOM, SHORT, KEPT = 65535, 10000, 70, 1500
@@ -21,6 +21,12 @@ declarations = [b'fn f() {}', b'fn f(a: {b: !, c: ()?},) -> a.b[c, d,] {}', b'fn
 suffixes = [b'', b'i8', b'i16', b'i32', b'i64', b'u8', b'u16', b'u32', b'u64', b'f32', b'f64', b'i', b'u128', b'f16', b'I8', b'u8_', b'e5', b'_u8', b'x']
 bodies = [b'0', b'7', b'300', b'007', b'1_0', b'1__', b'9223372036854775807', b'9223372036854775808', b'1.5', b'1.', b'1.5_', b'1.2.3', b'0.0', b'1._5']
 literals = [body + suffix for body in bodies for suffix in suffixes]
+# The greatest value of each type, one less and one more, under every suffix; under a sign; with zeros and underscores.
+greatest = [2 ** (bits - sign) - 1 for sign in (1, 0) for bits in (8, 16, 32, 64)]
+literals += [b'%d%s' % (n + more, suffix) for n in greatest for more in (-1, 0, 1) for suffix in suffixes[:11]]
+edges = list(zip(greatest, suffixes[1:9]))
+literals += [b'-%d%s' % (n + more, suffix) for n, suffix in edges for more in (0, 1)]
+literals += [b'00_%s%s' % (b'_'.join(b'%c' % d for d in b'%d' % (n + more)), suffix) for n, suffix in edges for more in (0, 1)]
 literals += [b'0x', b'0x0', b'0xfF', b'0x_1', b'0xg', b'0x7fffffffffffffff', b'0x8000000000000000', b'0x007fffffffffffffff', b'0x1u8', b'0X1',
              b'AS', b'AS0', b'AS007', b'AS1', b'AS4294967295', b'AS4294967296', b'AS00004294967296', b'AS1_0', b'AS1a', b'as1', b'ASx',
              b'0.0.0.0', b'255.255.255.255', b'256.0.0.0', b'0.0.0.256', b'01.2.3.4', b'1.2.3.04', b'00.0.0.0', b'1.2.3', b'1.2.3.', b'1.2.3.4.5', b'1.2.3.4a',
@@ -65,7 +71,7 @@ def filled(before, fill, after, length=LONGEST):
 
 
 long = [(b'a', filled(b'', b' ', b'')), (b'a', filled(b'', b' ', b'', LONGEST + 1)), (b'a', filled(PRINTER, b'\n', PRINTER)),
-        (b'b', filled(b'', b'name', b'')), (b'b', filled(b'"', b'text ', b'" ')), (b'b', filled(b'', b'a+', b'a')), (b'a', filled(b'//', b'-', b'\n' + PRINTER, LONGEST - 1))]
+        (b'b', filled(b'', b'9', b'u64')), (b'b', filled(b'', b'0', b'255u8')), (b'b', filled(b'', b'0', b'256u8')), (b'b', filled(b'', b'name', b'')), (b'b', filled(b'"', b'text ', b'" ')), (b'b', filled(b'', b'a+', b'a')), (b'a', filled(b'//', b'-', b'\n' + PRINTER, LONGEST - 1))]
 
 cases = [(entry, source, ROOM) for entry, source in [(b'a', b''), (b'a', PRINTER), (b'a', b'#!a'), (b'a', b'\xff'), (b'a', b'const A: u8 = f""'), (b'a', open(sys.argv[1], 'rb').read())] + long]
 cases += [(b'b', source, ROOM) for source in pairs + forms + literals + limits] + [(b'a', source, ROOM) for source in declarations + trees]

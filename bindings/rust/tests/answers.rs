@@ -39,6 +39,15 @@ fn refusals_have_their_number_and_place() {
 }
 
 #[test]
+fn a_value_is_any_number_that_its_suffix_holds() {
+    let mut reader = Reader::default();
+    let rows: Vec<_> = reader.expression(b"18446744073709551615u64").unwrap().collect();
+    assert_eq!(rows, [[10, 0, 23, 0, u64::MAX, 8]]);
+    assert_eq!(reader.expression(b"18446744073709551616u64").err(), Some(refusal(7, 0, 23)));
+    assert_eq!(reader.expression(b"300u8").err(), Some(refusal(7, 0, 5)));
+}
+
+#[test]
 fn no_room_says_how_much_is_needed() {
     let mut reader = Reader::with_room(2);
     let no_room = reader.expression(b"1+2").err();

@@ -8,7 +8,7 @@ use Rattle.tokens.specs.Rules.{whenFit, signFit, thenFit, pairAt, ipv6At, perio
 use Rattle.tokens.specs.Tokens.{stepAt, wholeOf}
 use Rattle.numbers.specs.Digits.{choose, digitOf, valueFrom, allBelow, plain, numberFrom, numberOf}
 use Rattle.numbers.specs.Texts.{ahead, untilByte}
-use Rattle.numbers.specs.Numbers.{placeIn, suffixOf, asInteger, integerWith, integerOf, floatWith, floatOf, hexOf, asOf}
+use Rattle.numbers.specs.Numbers.{placeIn, suffixOf, ceilingOf, asInteger, integerWith, integerOf, floatWith, floatOf, hexOf, asOf}
 use Rattle.addresses.specs.Groups.{shortOf, groupOf, parts, valuesOf}
 use Rattle.addresses.specs.Addresses.{exactly, octetsOf, quadOf, gap, sideOf, filled, groupsOf, wideOf}
 use Rattle.strings.specs.Escapes.{simpleOf, asciiOf, scalarOf, unicodeOf, plainEscape, escapeOf, pieceOf}
@@ -26,7 +26,7 @@ unfolding byteAt isClass span pastSpan pastRun bytes same twoSigns oneSigns keyw
 lexer = tt
 
 unfoldable pub values : Unit {0}
-unfolding choose digitOf valueFrom allBelow plain numberFrom numberOf ahead untilByte placeIn suffixOf asInteger integerWith integerOf floatWith floatOf hexOf asOf shortOf groupOf parts valuesOf exactly octetsOf quadOf gap sideOf filled groupsOf wideOf simpleOf asciiOf scalarOf unicodeOf plainEscape escapeOf pieceOf codesFrom measureOf isQuoted sizeOf wholly charOf utf8 encode boolOf literalOf
+unfolding choose digitOf valueFrom allBelow plain numberFrom numberOf ahead untilByte placeIn suffixOf ceilingOf asInteger integerWith integerOf floatWith floatOf hexOf asOf shortOf groupOf parts valuesOf exactly octetsOf quadOf gap sideOf filled groupsOf wideOf simpleOf asciiOf scalarOf unicodeOf plainEscape escapeOf pieceOf codesFrom measureOf isQuoted sizeOf wholly charOf utf8 encode boolOf literalOf
 values = tt
 
 unfoldable pub reader : Unit {0}

@@ -20,7 +20,7 @@ cases-computed = refl
 pub more-cases : Each cases
 more-cases = each-means 3000 cases cases-computed
 
--- what was decided where document 01's words leave room
+-- what was decided where the documents' words leave room
 decided-computed : computed 9000 decided ≡ stated decided
 unfolding lexer values reader computed stated decided
 decided-computed = refl

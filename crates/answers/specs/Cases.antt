@@ -1,4 +1,4 @@
--- Document 01's worked pairs 1 to 12, and texts that tell the grammar from others, as tables: entry, source, answer, rows.
+-- Document 01's worked pairs 1 to 12, two of them as document 02 changes them, and texts that tell the grammar from others, as tables: entry, source, answer, rows.
 use mathlib.Core.List.{List, [], _∷_, _++_}
 use mathlib.Core.Bool.{Bool, true, false}
 use Prim.Native.Nat.{ℕ, _+_, _-_, _*_}
@@ -63,10 +63,10 @@ worked =
     expr-has "AS4294967295" (row 13 0 12 0 4294967295 0 ∷ []) ∷
     -- 3
     expr-fails "AS4294967296" 7 0 12 ∷
-    -- 4
-    expr-fails "18446744073709551615u64" 7 0 23 ∷
-    -- 5
-    expr-has "300u8" (row 10 0 5 0 300 5 ∷ []) ∷
+    -- 4, by C-12: "now accepted"
+    expr-has "18446744073709551615u64" (row 10 0 23 0 18446744073709551615 8 ∷ []) ∷
+    -- 5, by C-12: "refused"
+    expr-fails "300u8" 7 0 5 ∷
     -- 6
     expr-fails "1.2.3." 7 0 6 ∷
     -- 7

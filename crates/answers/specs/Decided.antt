@@ -1,4 +1,4 @@
--- What was decided where document 01's words leave room, each with a small source that tells.
+-- What was decided where the words of documents 01 and 02 leave room, each with a small source that tells.
 use mathlib.Core.List.{List, [], _∷_}
 use Rattle.chars.specs.Texts.{bytes}
 use Rattle.answers.specs.Cases.{Case, row, tree-has, expr-has, tree-fails, expr-fails}
@@ -148,6 +148,12 @@ decided =
     -- numbers, strings and addresses that look odd
     expr-has "9223372036854775808f64" (row 11 0 22 0 0 10 ∷ []) ∷
     expr-fails "9223372036854775808" 7 0 19 ∷
+    -- the range of the suffix, which the sign before a literal doesn't widen; floats have none, and a hex number has no suffix
+    expr-has "-127i8" (row 10 1 6 0 127 1 ∷ row 22 0 6 1 0 0 ∷ []) ∷
+    expr-fails "-128i8" 7 1 6 ∷
+    expr-has "9223372036854775808u64" (row 10 0 22 0 9223372036854775808 8 ∷ []) ∷
+    expr-has "300f32" (row 11 0 6 0 0 9 ∷ []) ∷
+    expr-fails "0x8000000000000000" 7 0 18 ∷
     expr-has "'\\'' " (row 17 0 4 0 39 0 ∷ []) ∷
     expr-fails "\"a\\\nb\" " 7 0 6 ∷
     expr-fails "1." 11 2 2 ∷

@@ -1,7 +1,7 @@
 -- What integers, floats, hex numbers and AS numbers say, from the tests on the way.
 use mathlib.Core.Path.{_≡_, refl, sym, ap, _∙_}
-use Prim.Native.Nat.{ℕ, _+_, _-_, _<_, _≤_, zero-le}
-use mathlib.Core.List.{List}
+use Prim.Native.Nat.{ℕ, _+_, _-_, _^_, _<_, _≤_, zero-le}
+use mathlib.Core.List.{List, [], _∷_, map}
 use mathlib.Core.Bool.{Bool, true, false, _&&_, _||_}
 use native.Mathlib.Omega.{arith}
 use lib.ListN.{length, take, drop}
@@ -15,23 +15,23 @@ use Rattle.numbers.specs.declared.Base.{Base}
 use Rattle.numbers.specs.declared.Number.{Number}
 use Rattle.numbers.specs.declared.Amount.{Amount}
 use Rattle.numbers.specs.Digits.{choose, numberOf, plain}
-use Rattle.numbers.specs.Numbers.{suffixOf, asInteger, integerWith, integerOf, floatWith, floatOf}
+use Rattle.numbers.specs.Numbers.{suffixOf, greatest, ceilingOf, asInteger, integerWith, integerOf, floatWith, floatOf}
 use Rattle.numbers.proofs.Choices.{first, second, and-right}
 use Rattle.numbers.proofs.Digits.{plain-whole}
 use Rattle.numbers.proofs.Texts.{tail-part}
+
+-- the greatest values are those of the widths that the suffixes name: one bit of an i8 to i64 is the sign's
+pub widths : greatest ≡ map (λ n. 2 ^ n - 1) (7 ∷ 15 ∷ 31 ∷ 63 ∷ 8 ∷ 16 ∷ 32 ∷ 64 ∷ [])
+widths = refl
 
 -- the figures of a text end inside it
 pub figures-le : (t : List ℕ) {e : ℕ} → e ≡ pastRun (isClass Class.Figure) t 0 → e ≤ length t
 figures-le t h = rw h (past-le (isClass Class.Figure) t 0 zero-le)
 
 module _ (figures : List ℕ) (s : ℕ) where
-  pub integer-is : {n : Number} {v k : ℕ} → s < 9 → n ≡ numberOf Base.Ten 9223372036854775807 (plain true figures) → n ≡ Number.Is v k → Amount.Integer v s ≡ integerWith figures s
-  unfolding integerWith asInteger
-  integer-is h e f = first _ (lt-ltb _ _ h) (sym (ap (asInteger s) (sym e ∙ f)))
-
-  pub integer-over : {n : Number} → s < 9 → n ≡ numberOf Base.Ten 9223372036854775807 (plain true figures) → n ≡ Number.None → Amount.None ≡ integerWith figures s
-  unfolding integerWith asInteger
-  integer-over h e f = first _ (lt-ltb _ _ h) (sym (ap (asInteger s) (sym e ∙ f)))
+  pub integer-whole : {limit : ℕ} {n : Number} (m : Number) → s < 9 → limit ≡ ceilingOf s → n ≡ numberOf Base.Ten limit (plain true figures) → n ≡ m → asInteger s m ≡ integerWith figures s
+  unfolding integerWith
+  integer-whole m h l e f = rw (← l) (first _ (lt-ltb _ _ h) (ap (asInteger s) (sym (sym e ∙ f))))
 
   pub integer-float : 9 ≤ s → s < 11 → Amount.Float s ≡ integerWith figures s
   unfolding integerWith

@@ -2,7 +2,7 @@
 use Prim.Native.Nat.{ℕ, _+_}
 use mathlib.Core.List.{List, [], _∷_}
 use mathlib.Core.Bool.{true, _&&_, _||_}
-use lib.ListN.{length, take, drop}
+use lib.ListN.{length, take, drop, getD}
 use lib.Dec.{eqb, ltb}
 use Rattle.chars.specs.declared.Class.{Class}
 use Rattle.chars.specs.Chars.{byteAt, isDigit, isClass}
@@ -28,6 +28,27 @@ suffixes =
     ∷ bytes "f64"
     ∷ []
 
+-- "Test the range of the suffix, and let `u64` reach 18446744073709551615" (document 02): the greatest value of `i8` to `u64`, in the same order
+abbrev pub greatest : List ℕ
+greatest =
+    127
+    ∷ 32767
+    ∷ 2147483647
+    ∷ 9223372036854775807
+    ∷ 255
+    ∷ 65535
+    ∷ 4294967295
+    ∷ 18446744073709551615
+    ∷ []
+
+-- "Without a suffix the old ceiling stays": "at most 9223372036854775807", and for a hex number "at most 0x7fffffffffffffff"
+abbrev pub unsuffixed : ℕ
+unsuffixed = 9223372036854775807
+
+-- the greatest value under the suffix of an integer, by the suffix's number
+unfoldable pub ceilingOf : ℕ → ℕ
+ceilingOf suffix = getD (unsuffixed ∷ greatest) suffix 0
+
 -- the place of a text in a list, counted from k
 unfoldable pub placeIn : ℕ → List ℕ → List (List ℕ) → ℕ
 placeIn k text [] = k
@@ -41,10 +62,10 @@ unfoldable pub asInteger : ℕ → Number → Amount
 asInteger suffix (Number.Is v n) = Amount.Integer v suffix
 asInteger suffix Number.None = Amount.None
 
--- "underscores dropped, at most 9223372036854775807, then the suffix"; "`f32` or `f64` makes a float; any other is refused"
+-- "underscores dropped", "then the suffix", whose range is tested; "`f32` or `f64` makes a float; any other is refused"
 unfoldable pub integerWith : List ℕ → ℕ → Amount
 integerWith figures suffix =
-    choose (ltb suffix 9) (asInteger suffix (numberOf Base.Ten 9223372036854775807 (plain true figures)))
+    choose (ltb suffix 9) (asInteger suffix (numberOf Base.Ten (ceilingOf suffix) (plain true figures)))
     (choose (ltb suffix 11) (Amount.Float suffix) Amount.None)
 
 -- "a digit, then digits or `_`", and a suffix
@@ -63,9 +84,9 @@ floatOf text =
     let dot : ℕ = pastRun (isClass Class.Figure) text 0 in
     choose (eqb (byteAt text dot) 46) (floatWith (suffixOf (drop (pastRun (isClass Class.Figure) text (dot + 1)) text))) Amount.None
 
--- "1 digit or more, at most 0x7fffffffffffffff", behind `0x`
+-- "1 digit or more", behind `0x`
 unfoldable pub hexOf : List ℕ → Number
-hexOf text = choose (eqb (byteAt text 0) 48 && eqb (byteAt text 1) 120) (numberOf Base.Sixteen 9223372036854775807 (drop 2 text)) Number.None
+hexOf text = choose (eqb (byteAt text 0) 48 && eqb (byteAt text 1) 120) (numberOf Base.Sixteen unsuffixed (drop 2 text)) Number.None
 
 -- "the decimal value of its digits, at most 4294967295", behind `AS`
 unfoldable pub asOf : List ℕ → Number

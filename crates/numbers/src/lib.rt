@@ -1,10 +1,27 @@
 // The numbers that digits write, and what integers, floats, hex numbers and AS numbers say.
 use chars::Class;
 ghost use mathlib.Core.Path.{_≡_};
+ghost use Prim.Native.Nat.{_<_};
 ghost use Rattle.chars.specs.Texts.{same};
 ghost use Rattle.numbers.specs.Digits.{digitOf, radixOf, addOf, numberOf, plain};
 ghost use Rattle.numbers.specs.Texts.{untilByte};
-ghost use Rattle.numbers.specs.Numbers.{suffixOf, integerOf, floatOf, hexOf, asOf};
+ghost use Rattle.numbers.specs.Numbers.{suffixOf, ceilingOf, integerOf, floatOf, hexOf, asOf};
+
+// The greatest value of a hex number, and of an integer without a suffix.
+const UNSUFFIXED: u64 = 9223372036854775807;
+
+// The greatest value under each suffix of an integer, by the suffix's number: none, then i8 to i64, then u8 to u64.
+const CEILINGS: [u64; 9] = [
+    UNSUFFIXED,
+    127,
+    32767,
+    2147483647,
+    9223372036854775807,
+    255,
+    65535,
+    4294967295,
+    18446744073709551615,
+];
 
 pub enum Base {
     Ten,
@@ -156,6 +173,14 @@ fn suffix(t: &[u8]) -> u64
     }
 }
 
+// The greatest value under an integer's suffix.
+fn ceiling(suffix: u64) -> u64
+    requires { ⌜ suffix < 9 ⌝ }
+    ensures { λ r. ⌜ r ≡ ceilingOf suffix ⌝ }
+{
+    CEILINGS[suffix as usize]
+}
+
 pub fn integer(t: &[u8]) -> Amount
     ensures { λ r. ⌜ r ≡ integerOf (now (t .entry)) ⌝ }
 {
@@ -166,7 +191,7 @@ pub fn integer(t: &[u8]) -> Amount
             if let Number::Is { value, digits: _ } = number_of(
                 &t[..e],
                 Base::Ten,
-                9223372036854775807,
+                ceiling(suffix),
                 true,
             ) {
                 return Amount::Integer { value, suffix };
@@ -196,7 +221,7 @@ pub fn hex(t: &[u8]) -> Number
     ensures { λ r. ⌜ r ≡ hexOf (now (t .entry)) ⌝ }
 {
     if (chars::byte_at(t, 0) == 48) & (chars::byte_at(t, 1) == 120) {
-        return number_of(&t[2..], Base::Sixteen, 9223372036854775807, false);
+        return number_of(&t[2..], Base::Sixteen, UNSUFFIXED, false);
     }
     Number::None
 }

@@ -1,5 +1,5 @@
--- Worked pairs 2 to 7 and 9 of document 01, as far as they concern values, and the examples of RFC 4291 section 2.2: one table under one
--- statement, by computation.
+-- Worked pairs 2 to 7 and 9 of document 01, 4 and 5 as document 02 changes them (C-12), as far as they concern values, and the examples of
+-- RFC 4291 section 2.2: one table under one statement, by computation.
 use mathlib.Core.Path.{_≡_, refl}
 use mathlib.Core.List.{List, [], _∷_}
 use mathlib.Core.Option.{some}
@@ -9,7 +9,7 @@ use Rattle.chars.specs.Chars.{byteAt, isClass}
 use Rattle.chars.specs.Runs.{span, pastSpan, pastRun}
 use Rattle.chars.specs.Texts.{bytes, same}
 use Rattle.numbers.specs.Digits.{choose, digitOf, valueFrom, allBelow, plain, numberFrom, numberOf}
-use Rattle.numbers.specs.Numbers.{placeIn, suffixOf, asInteger, integerWith, integerOf, asOf}
+use Rattle.numbers.specs.Numbers.{placeIn, suffixOf, ceilingOf, asInteger, integerWith, integerOf, asOf}
 use Rattle.addresses.specs.Groups.{shortOf, groupOf, parts, valuesOf}
 use Rattle.addresses.specs.Addresses.{exactly, octetsOf, quadOf, gap, sideOf, filled, groupsOf, wideOf}
 use Rattle.strings.specs.Escapes.{pieceOf}
@@ -39,8 +39,8 @@ abbrev pairs : List Pair
 pairs =
     record { code = 5; text = "AS4294967295"; row = Literal.Is 13 4294967295 0 }
     ∷ record { code = 5; text = "AS4294967296"; row = Literal.None }
-    ∷ record { code = 7; text = "18446744073709551615u64"; row = Literal.None }
-    ∷ record { code = 7; text = "300u8"; row = Literal.Is 10 300 5 }
+    ∷ record { code = 7; text = "18446744073709551615u64"; row = Literal.Is 10 18446744073709551615 8 }
+    ∷ record { code = 7; text = "300u8"; row = Literal.None }
     ∷ record { code = 2; text = "1.2.3."; row = Literal.None }
     ∷ record { code = 1; text = "::1"; row = Literal.Is 15 0 1 }
     ∷ record { code = 9; text = "\"a\""; row = Literal.Is 16 0 0 }
@@ -60,7 +60,7 @@ addresses =
     ∷ []
 
 pub examples : Rows pairs × Means addresses
-unfolding literalOf choose byteAt isClass span pastSpan pastRun bytes same digitOf valueFrom allBelow plain numberFrom numberOf placeIn suffixOf asInteger integerWith integerOf asOf shortOf groupOf parts valuesOf exactly octetsOf quadOf gap sideOf filled groupsOf wideOf pieceOf codesFrom measureOf isQuoted sizeOf utf8 encode
+unfolding literalOf choose byteAt isClass span pastSpan pastRun bytes same digitOf valueFrom allBelow plain numberFrom numberOf placeIn suffixOf ceilingOf asInteger integerWith integerOf asOf shortOf groupOf parts valuesOf exactly octetsOf quadOf gap sideOf filled groupsOf wideOf pieceOf codesFrom measureOf isQuoted sizeOf utf8 encode
 examples = (
   (refl, (refl, (refl, (refl, (refl, (refl, (refl, tt))))))),
   (refl, (refl, (refl, (refl, (refl, (refl, (refl, (refl, (refl, tt))))))))),

@@ -58,8 +58,9 @@ fn integer(r: &mut Random, out: &mut Vec<u8>) {
         "u", "e5", "F32", "u8_",
     ];
     let zeros = if r.once_in(6) { "000" } else { "" };
-    let greatest = [9_223_372_036_854_775_807, 18_446_744_073_709_551_615, 255][r.below(3)];
-    let digits = format!("{zeros}{}", near(r, greatest));
+    // The greatest value of a type of 8 to 64 bits, signed or not.
+    let bits = [8, 16, 32, 64][r.below(4)] - r.below(2);
+    let digits = format!("{zeros}{}", near(r, (1 << bits) - 1));
     for (i, digit) in digits.bytes().enumerate() {
         if i > 0 && r.once_in(8) {
             out.push(b'_');

@@ -22,6 +22,18 @@ fn ours(s: &[u8], code: u64, start: usize, end: usize) -> Row {
 
 const SUFFIXES: [&str; 11] = ["", "i8", "i16", "i32", "i64", "u8", "u16", "u32", "u64", "f32", "f64"];
 
+/// The greatest values of the types that a suffix of an integer names.
+const EDGES: [u64; 8] = [
+    i8::MAX as u64,
+    i16::MAX as u64,
+    i32::MAX as u64,
+    i64::MAX as u64,
+    u8::MAX as u64,
+    u16::MAX as u64,
+    u32::MAX as u64,
+    u64::MAX,
+];
+
 fn figures(t: &str) -> usize {
     t.find(|c: char| !c.is_ascii_digit() && c != '_').unwrap_or(t.len())
 }
@@ -34,6 +46,20 @@ fn digits(t: &str, radix: u32) -> Option<&str> {
     (!t.is_empty() && t.chars().all(|c| c.is_digit(radix))).then_some(t)
 }
 
+/// By the parser of the type that a suffix names, and by that of i64 without one.
+fn whole(digits: &str, suffix: &str) -> Option<u64> {
+    match suffix {
+        "i8" => digits.parse::<i8>().ok().map(|v| v as u64),
+        "i16" => digits.parse::<i16>().ok().map(|v| v as u64),
+        "i32" => digits.parse::<i32>().ok().map(|v| v as u64),
+        "u8" => digits.parse::<u8>().ok().map(u64::from),
+        "u16" => digits.parse::<u16>().ok().map(u64::from),
+        "u32" => digits.parse::<u32>().ok().map(u64::from),
+        "u64" => digits.parse::<u64>().ok(),
+        _ => digits.parse::<i64>().ok().map(|v| v as u64),
+    }
+}
+
 fn integer(t: &str) -> Row {
     if !t.starts_with(|c: char| c.is_ascii_digit()) {
         return None;
@@ -41,7 +67,7 @@ fn integer(t: &str) -> Row {
     let e = figures(t);
     match suffix(&t[e..])? {
         k @ (9 | 10) => Some((11, 0, k)),
-        k => t[..e].replace('_', "").parse::<i64>().ok().map(|v| (10, v as u64, k)),
+        k => whole(&t[..e].replace('_', ""), &t[e..]).map(|v| (10, v, k)),
     }
 }
 
@@ -255,7 +281,8 @@ impl Random {
             5 => format!("AS{}", self.number(u32::MAX as u64)),
             6 => format!("0x{:x}", self.near(i64::MAX as u64)),
             7 => {
-                let mut v = self.number(i64::MAX as u64);
+                let edge = EDGES[self.below(EDGES.len())];
+                let mut v = self.number(edge);
                 if self.below(2) == 0 {
                     let k = self.below(v.len()) + 1;
                     v.insert(k, '_');
@@ -356,6 +383,20 @@ fn exhaustive(code: u64, tally: &mut Tally) {
     }
 }
 
+/// Each suffix behind every short text of digits and underscores, and behind every text that ends so and begins as an edge does.
+fn edges(tally: &mut Tally) {
+    const FIGURES: &[u8] = b"0123456789_";
+    const SHORT: usize = 6;
+    const CHANGED: usize = 5;
+    for suffix in SUFFIXES {
+        every(FIGURES, SHORT, b"", suffix.as_bytes(), |text| tally.literal(text, 7));
+        for edge in EDGES.map(|v| v.to_string()).iter().filter(|edge| edge.len() > CHANGED) {
+            let kept = edge.len() + 1 - CHANGED;
+            every(FIGURES, CHANGED, edge[..kept].as_bytes(), suffix.as_bytes(), |text| tally.literal(text, 7));
+        }
+    }
+}
+
 fn random(code: u64, texts: usize, tally: &mut Tally) {
     let mut random = Random(0x9e37_79b9_7f4a_7c15 ^ code.wrapping_mul(0x1234_5678_9abc_def1));
     for round in 0..texts {
@@ -383,11 +424,15 @@ fn random(code: u64, texts: usize, tally: &mut Tally) {
 fn long(tally: &mut Tally) {
     let nines = "9".repeat(60000);
     let zeros = "0".repeat(60000);
+    for suffix in SUFFIXES {
+        tally.literal(format!("{nines}{suffix}").as_bytes(), 7);
+        for edge in EDGES {
+            tally.literal(format!("{zeros}{edge}{suffix}").as_bytes(), 7);
+            tally.literal(format!("{zeros}{}{suffix}", edge as u128 + 1).as_bytes(), 7);
+        }
+    }
     for (code, text) in [
-        (7, nines.clone()),
         (7, zeros.clone()),
-        (7, format!("{zeros}7u8")),
-        (7, format!("{nines}f64")),
         (7, format!("1{}", "_".repeat(65000))),
         (5, format!("AS{zeros}1")),
         (5, format!("AS{nines}")),
@@ -419,6 +464,9 @@ fn main() {
     for code in [1, 2, 5, 6, 7, 8, 9, 10, 12, 0] {
         let mut tally = Tally::default();
         exhaustive(code, &mut tally);
+        if code == 7 {
+            edges(&mut tally);
+        }
         let short = (tally.texts, tally.values);
         random(code, texts, &mut tally);
         println!(

@@ -1,7 +1,7 @@
 use lib.Dec.{lit<}
 use Rattle.numbers.specs.declared.Base.{Base}
 use Rattle.numbers.specs.Digits.{numberOf}
-use Rattle.numbers.specs.Numbers.{hexOf}
+use Rattle.numbers.specs.Numbers.{hexOf, unsuffixed}
 use Rattle.numbers.proofs.Numbers.{begins-in, behind, not-begun}
 use borrow.Author.Needs.{needs}
 use Rattle.numbers.proofs.hex.Statement.{statement}
@@ -29,7 +29,7 @@ number-of-requires c κs = search needs
 
 returns : tie.Need-returns
 unfolding hexOf
-returns c = behind (c .before .before .before .before .before .before .args .t .now) 48 120 (c .before .before .before .before .byte-at .ensures) (c .before .before .before .byte-at2 .ensures) (numberOf Base.Sixteen 9223372036854775807) (c .before .before .if1 .taken) (c .number-of .ensures)
+returns c = behind (c .before .before .before .before .before .before .args .t .now) 48 120 (c .before .before .before .before .byte-at .ensures) (c .before .before .before .byte-at2 .ensures) (numberOf Base.Sixteen unsuffixed) (c .before .before .if1 .taken) (c .number-of .ensures)
 
 returns-2 : tie.Need-returns-2
 unfolding hexOf
