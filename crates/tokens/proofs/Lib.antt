@@ -1,8 +1,8 @@
 mod Fits
 mod Pairs
 mod Blanks
-mod Words
-mod Packing
+mod Texts
+mod Tables
 mod Names
 mod Rules
 mod Answers

@@ -1,7 +1,7 @@
 -- What each rule answers, from the places that were reached and the bytes that stand there.
 use mathlib.Core.Path.{_≡_, refl, sym, ap, ap₂, _∙_}
 use Prim.Native.Nat.{ℕ, _+_, _-_, _<_, _≤_}
-use mathlib.Core.List.{List}
+use mathlib.Core.List.{List, []}
 use mathlib.Core.Bool.{Bool, true, false, _&&_, _||_, not}
 use native.Mathlib.Decide.{decLt}
 use native.Mathlib.Omega.{arith}
@@ -16,9 +16,10 @@ use Rattle.chars.proofs.Runs.{byte-in, byte-out, inside, within, span-more, spa
 use Rattle.tokens.specs.declared.Fit.the-variants.{To, No}
 use Rattle.tokens.specs.Words.{twoSign, twoSigns, oneSign, oneSigns, wordIn, codeOf}
 use Rattle.tokens.specs.Blanks.{pastComment}
-use Rattle.tokens.specs.Rules.{ipv6At, periodAt, fractionAt, numberAt, twoAt, goesOn, escapes, quoteAt}
+use Rattle.tokens.specs.Rules.{ipv6At, periodAt, fractionAt, numberAt, twoAt, oneAt, goesOn, escapes, quoteAt}
 use Rattle.tokens.proofs.Pairs.{fst}
 use Rattle.tokens.proofs.Fits.{both, not-first, not-second, fails-second, byte-is, byte-isn't, fits, fails, no-sign, first, second}
+use Rattle.tokens.proofs.Tables.{no-first}
 
 one-none : oneSign 256 ≡ 0
 unfolding oneSign oneSigns wordIn same
@@ -109,14 +110,20 @@ module _ (s : List ℕ) (at : ℕ) where
       unfolding quoteAt
       quote-fits e h g = rw (← to) (fits (both (byte-is s at e h) (lt-ltb _ _ g)) refl refl)
 
--- 3. Two signs: none past the end
-two-none : twoSign 256 256 ≡ 0
-unfolding twoSign twoSigns wordIn same
-two-none = refl
+-- 3. Two signs: none without a second byte. 4. One sign: none past the end
+pub two-out : (s : List ℕ) (at : ℕ) → length s ≤ at + 1 → No ≡ twoAt s at
+unfolding twoAt twoSigns
+two-out s at h = no-sign (at + 2) refl (ap (twoSign (byteAt s at)) (byte-out s (at + 1) h) ∙ sym (no-first [] (byteAt s at) 256 refl tt))
 
-pub two-out : (s : List ℕ) (at : ℕ) → length s ≤ at → No ≡ twoAt s at
-unfolding twoAt
-two-out s at h = no-sign (at + 2) refl (ap₂ twoSign (byte-out s at h) (byte-out s (at + 1) (omega (arith, h))) ∙ two-none)
+pub one-out : (s : List ℕ) (at : ℕ) → length s ≤ at → No ≡ oneAt s at
+unfolding oneAt
+one-out s at h = no-sign (at + 1) refl (ap oneSign (byte-out s at h) ∙ one-none)
+
+pub two-read : (s : List ℕ) (at : ℕ) {w : ℕ} → at + 1 < length s → w ≡ twoSign (getD s at 0) (getD s (at + 1) 0) → w ≡ twoSign (byteAt s at) (byteAt s (at + 1))
+two-read s at h e = e ∙ sym (ap₂ twoSign (byte-in s at (omega (arith, h))) (byte-in s (at + 1) h))
+
+pub one-read : (s : List ℕ) (at : ℕ) {w : ℕ} → at < length s → w ≡ oneSign (getD s at 0) → w ≡ oneSign (byteAt s at)
+one-read s at h e = e ∙ sym (ap oneSign (byte-in s at h))
 
 -- the scan for a closing quote
 quote-outside : (q : ℕ) (c : Bool) → goesOn q c 256 ≡ false
@@ -156,7 +163,3 @@ module _ (w : ℕ) where
   pub code-same : w < 20 → (w ≡ 14 → ⊥) → w ≡ codeOf w
   unfolding codeOf
   code-same k h = first _ (lt-ltb w 20 k) (second _ (ne-eqb w 14 h) refl)
-
--- a byte that was read is at most 256, where the elements are bytes
-pub byte-top : (s : List ℕ) (i : ℕ) {b : ℕ} → ((n : ℕ) → getD s n 0 < 256) → b ≡ byteAt s i → b ≤ 256
-byte-top s i small e = elim (decLt i (length s)) [ yes h ↦ omega (arith, small i, e ∙ byte-in s i h) | no k ↦ omega (arith, e ∙ byte-out s i (omega (arith, k))) ]

@@ -1,10 +1,8 @@
 -- The words: which sign, which keyword, which kind of literal a token is. A word is a number, and has one code of document 01.
-use Prim.Native.Nat.{ℕ, _+_, _-_, _*_}
+use Prim.Native.Nat.{ℕ}
 use Prim.Native.String.{String}
-use mathlib.Core.List.{List, [], _∷_}
-use mathlib.Core.Bool.{Bool, true, false, _&&_}
-use lib.ListN.{length}
-use lib.Dec.{eqb, ltb, leb}
+use mathlib.Core.List.{List, [], _∷_, _++_}
+use lib.Dec.{eqb, ltb}
 use Rattle.chars.specs.Chars.{pick}
 use Rattle.chars.specs.Texts.{bytes, same}
 
@@ -31,13 +29,34 @@ oneSigns =
     ("{" is 40) ∷ ("}" is 41) ∷ ("(" is 42) ∷ (")" is 43) ∷ ("[" is 44) ∷ ("]" is 45) ∷ (":" is 46) ∷ (";" is 47) ∷ ("," is 48) ∷ ("." is 49) ∷
     ("=" is 50) ∷ ("?" is 51) ∷ ("!" is 52) ∷ ("-" is 53) ∷ ("+" is 54) ∷ ("*" is 55) ∷ ("/" is 56) ∷ ("%" is 57) ∷ ("<" is 58) ∷ (">" is 59) ∷ []
 
--- "keywords are the 22 in `keyword_or_ident`", in its order; "`true` or `false`"
-unfoldable pub keywords : List Entry
+-- a line of the manual's page: how many letters, and the words that have so many
+pub record Line : Type 0 where
+  pub letters : ℕ
+  pub words : List Entry
+
+abbrev pub line : ℕ → List Entry → Line
+line n ws = record { letters = n; words = ws }
+
+-- "keywords are the 22 in `keyword_or_ident`", whose order gives the numbers: the page has them by length, and each length's by the alphabet
+unfoldable pub page : List Line
 unfolding bytes
-keywords =
-    ("accept" is 60) ∷ ("const" is 61) ∷ ("dep" is 62) ∷ ("else" is 63) ∷ ("enum" is 64) ∷ ("filter" is 65) ∷ ("filtermap" is 66) ∷ ("for" is 67) ∷
-    ("fn" is 68) ∷ ("if" is 69) ∷ ("import" is 70) ∷ ("in" is 71) ∷ ("let" is 72) ∷ ("match" is 73) ∷ ("pkg" is 74) ∷ ("record" is 75) ∷
-    ("reject" is 76) ∷ ("return" is 77) ∷ ("std" is 78) ∷ ("super" is 79) ∷ ("test" is 80) ∷ ("while" is 81) ∷ ("true" is 12) ∷ ("false" is 12) ∷ []
+page =
+    line 2 (("fn" is 68) ∷ ("if" is 69) ∷ ("in" is 71) ∷ []) ∷
+    line 3 (("dep" is 62) ∷ ("for" is 67) ∷ ("let" is 72) ∷ ("pkg" is 74) ∷ ("std" is 78) ∷ []) ∷
+    line 4 (("else" is 63) ∷ ("enum" is 64) ∷ ("test" is 80) ∷ []) ∷
+    line 5 (("const" is 61) ∷ ("match" is 73) ∷ ("super" is 79) ∷ ("while" is 81) ∷ []) ∷
+    line 6 (("accept" is 60) ∷ ("filter" is 65) ∷ ("import" is 70) ∷ ("record" is 75) ∷ ("reject" is 76) ∷ ("return" is 77) ∷ []) ∷
+    line 9 (("filtermap" is 66) ∷ []) ∷ []
+
+-- all words of a page
+unfoldable pub wordsOf : List Line → List Entry
+wordsOf [] = []
+wordsOf (l ∷ ls) = l .words ++ wordsOf ls
+
+-- "`true` or `false`", and beside them the keywords: the words of the page
+unfoldable pub keywords : List Entry
+unfolding bytes page wordsOf
+keywords = ("true" is 12) ∷ ("false" is 12) ∷ wordsOf page
 
 -- the word that a text is in a table, or else another
 unfoldable pub wordIn : List Entry → List ℕ → ℕ → ℕ
@@ -55,33 +74,18 @@ unfoldable pub nameWord : List ℕ → ℕ
 unfolding bytes
 nameWord t = pick (same t (bytes "_")) 14 (wordIn keywords t 13)
 
--- a text of small letters, at most 9, as one number: the first lowest, 32 to a letter; 0 for any other text
-unfoldable pub pack : List ℕ → ℕ
-pack [] = 0
-pack (b ∷ l) = (b - 96) + 32 * pack l
+-- a keyword is a word of the page; another text is a name
+unfoldable pub keywordOf : List ℕ → ℕ
+keywordOf t = wordIn (wordsOf page) t 13
 
-unfoldable pub lower : List ℕ → Bool
-lower [] = true
-lower (b ∷ l) = (leb 97 b && leb b 122) && lower l
+-- the words that a page has under a length
+unfoldable pub under : ℕ → List Line → List Entry
+under n [] = []
+under n (l ∷ ls) = pick (eqb n (l .letters)) (l .words) [] ++ under n ls
 
-unfoldable pub lettersOf : List ℕ → ℕ
-lettersOf t = pick (leb (length t) 9 && lower t) (pack t) 0
-
--- the same choice among numbers that stand for texts
-pub record Key : Type 0 where
-  pub key : ℕ
-  pub word : ℕ
-
-unfoldable pub keyIn : List Key → ℕ → ℕ → ℕ
-keyIn [] k d = d
-keyIn (x ∷ xs) k d = pick (eqb k (x .key)) (x .word) (keyIn xs k d)
-
-unfoldable pub keysBy : (List ℕ → ℕ) → List Entry → List Key
-keysBy f [] = []
-keysBy f (x ∷ xs) = record { key = f (x .text); word = x .word } ∷ keysBy f xs
-
-unfoldable pub keywordKeys : List Key
-keywordKeys = keysBy lettersOf keywords
+-- the same choice among the words of one length
+unfoldable pub keywordUnder : ℕ → List ℕ → ℕ
+keywordUnder n t = wordIn (under n page) t 13
 
 -- "its number is the token's code": 3 two signs, 4 one sign, 11 a keyword, 13 a name; a literal's word is its code
 unfoldable pub codeOf : ℕ → ℕ

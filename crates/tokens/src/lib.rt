@@ -3,13 +3,15 @@ ghost use mathlib.Core.Path.{_≡_};
 ghost use mathlib.Core.Bool.{false};
 ghost use Prim.Native.Nat.{_≤_, _<_};
 ghost use lib.ListN.{length};
-ghost use lib.Seq.{slice};
 ghost use Rattle.chars.specs.Runs.{pastSpan};
-ghost use Rattle.tokens.specs.Words.{codeOf, twoSign, oneSign, nameWord, lettersOf, keyIn, keywordKeys};
+ghost use Rattle.tokens.specs.Words.{codeOf, twoSign, oneSign};
 ghost use Rattle.tokens.specs.Blanks.{pastComment, skipAll};
 ghost use Rattle.tokens.specs.Rules.{pairAt, ipv6At, periodAt, ipv4At, twoAt, oneAt, asAt, hexAt, fractionAt, numberAt, goesOn, escapes, quoteAt, isNameStart, nameAt, tokenAt, taken, refused};
 ghost use Rattle.tokens.specs.Tokens.{stepAt, bad, wholeOf, refusal, counted, lastOf, answerOf};
 use chars::Class;
+
+mod keywords;
+pub mod word;
 
 // A place in a source. A step hands back the next.
 pub struct Cursor {
@@ -126,27 +128,49 @@ fn ipv4(s: &[u8], at: usize) -> Fit
     Fit::To(chars::past(s, c, Class::Digit), 2)
 }
 
-// The word of two signs by one number for both bytes, 0 if they are none.
-fn two_sign(a: u16, b: u16) -> u64
-    requires { ⌜ (a ≤ 256) × (b ≤ 256) ⌝ }
+// `== != <= >= += -= *= /= %=`: the word of a sign that `=` stands behind.
+fn sign_equals(a: u8) -> u64
+    ensures { λ r. ⌜ r ≡ twoSign a 61 ⌝ }
+{
+    match a {
+        b'=' => word::EQ_EQ,
+        b'!' => word::BANG_EQ,
+        b'<' => word::ANGLE_LEFT_EQ,
+        b'>' => word::ANGLE_RIGHT_EQ,
+        b'+' => word::PLUS_EQ,
+        b'-' => word::MINUS_EQ,
+        b'*' => word::STAR_EQ,
+        b'/' => word::SLASH_EQ,
+        b'%' => word::PERCENT_EQ,
+        _ => word::NONE,
+    }
+}
+
+// `=> ->`: the word of a sign that `>` stands behind.
+fn sign_angle(a: u8) -> u64
+    ensures { λ r. ⌜ r ≡ twoSign a 62 ⌝ }
+{
+    match a {
+        b'=' => word::FAT_ARROW,
+        b'-' => word::ARROW,
+        _ => word::NONE,
+    }
+}
+
+// By the second sign first: few bytes are one, so that most tokens are done here.
+fn two_sign(a: u8, b: u8) -> u64
     ensures { λ r. ⌜ r ≡ twoSign a b ⌝ }
 {
-    let both = (a as u64) * 512 + (b as u64);
-    match both {
-        31293 => 20,
-        31294 => 21,
-        16957 => 22,
-        30781 => 23,
-        31805 => 24,
-        19494 => 25,
-        63612 => 26,
-        23102 => 27,
-        22077 => 28,
-        23101 => 29,
-        21565 => 30,
-        24125 => 31,
-        19005 => 32,
-        _ => 0,
+    match b {
+        b'=' => sign_equals(a),
+        b'>' => sign_angle(a),
+        b'&' => if a == b'&' { word::AMP_AMP } else { word::NONE },
+        b'|' => if a == b'|' {
+            word::PIPE_PIPE
+        } else {
+            word::NONE
+        },
+        _ => word::NONE,
     }
 }
 
@@ -154,51 +178,55 @@ fn two_char_punctuation(s: &[u8], at: usize) -> Fit
     ensures { λ r. ⌜ r ≡ twoAt (now (s .entry)) at ⌝ }
 {
     if at < s.len() {
-        let word = two_sign(chars::byte_at(s, at), chars::byte_at(s, at + 1));
-        if word != 0 {
-            return Fit::To(at + 2, word);
+        let second = at + 1;
+        if second < s.len() {
+            let word = two_sign(s[at], s[second]);
+            if word != word::NONE {
+                return Fit::To(at + 2, word);
+            }
         }
     }
     Fit::No
 }
 
-fn one_sign(b: u16) -> u64
+fn one_sign(b: u8) -> u64
     ensures { λ r. ⌜ r ≡ oneSign b ⌝ }
 {
     match b {
-        123 => 40,
-        125 => 41,
-        40 => 42,
-        41 => 43,
-        91 => 44,
-        93 => 45,
-        58 => 46,
-        59 => 47,
-        44 => 48,
-        46 => 49,
-        61 => 50,
-        63 => 51,
-        33 => 52,
-        45 => 53,
-        43 => 54,
-        42 => 55,
-        47 => 56,
-        37 => 57,
-        60 => 58,
-        62 => 59,
-        _ => 0,
+        b'{' => word::CURLY_LEFT,
+        b'}' => word::CURLY_RIGHT,
+        b'(' => word::ROUND_LEFT,
+        b')' => word::ROUND_RIGHT,
+        b'[' => word::SQUARE_LEFT,
+        b']' => word::SQUARE_RIGHT,
+        b':' => word::COLON,
+        b';' => word::SEMI_COLON,
+        b',' => word::COMMA,
+        b'.' => word::PERIOD,
+        b'=' => word::EQ,
+        b'?' => word::QUESTION_MARK,
+        b'!' => word::BANG,
+        b'-' => word::HYPHEN,
+        b'+' => word::PLUS,
+        b'*' => word::STAR,
+        b'/' => word::SLASH,
+        b'%' => word::PERCENT,
+        b'<' => word::ANGLE_LEFT,
+        b'>' => word::ANGLE_RIGHT,
+        _ => word::NONE,
     }
 }
 
 fn one_char_punctuation(s: &[u8], at: usize) -> Fit
     ensures { λ r. ⌜ r ≡ oneAt (now (s .entry)) at ⌝ }
 {
-    let word = one_sign(chars::byte_at(s, at));
-    if word != 0 {
-        Fit::To(at + 1, word)
-    } else {
-        Fit::No
+    if at < s.len() {
+        let word = one_sign(s[at]);
+        if word != word::NONE {
+            return Fit::To(at + 1, word);
+        }
     }
+    Fit::No
 }
 
 fn as_number(s: &[u8], at: usize) -> Fit
@@ -282,75 +310,6 @@ fn quoted(s: &[u8], at: usize, quote: u16, word: u64) -> Fit
     Fit::No
 }
 
-// Small letters from `a` to `end` as one number, the first lowest, 32 to a letter; 0 for other bytes or more than 9.
-fn letters(s: &[u8], a: usize, end: usize) -> u64
-    requires { ⌜ (a ≤ end) × (end ≤ length (now s)) ⌝ }
-    ensures { λ r. ⌜ r ≡ lettersOf (slice a end (now (s .entry))) ⌝ }
-{
-    if 9 < end - a {
-        return 0;
-    }
-    let mut number: u64 = 0;
-    let mut i = end;
-    while a < i {
-        let b = chars::byte_at(s, i - 1);
-        if b < 97 {
-            return 0;
-        }
-        if 122 < b {
-            return 0;
-        }
-        number = number * 32 + ((b - 96) as u64);
-        i -= 1;
-    }
-    number
-}
-
-// The 22 keywords in the order of keyword_or_ident, then `true` and `false`, by their letters' number.
-fn keyword(letters: u64) -> u64
-    ensures { λ r. ⌜ r ≡ keyIn keywordKeys letters 13 ⌝ }
-{
-    match letters {
-        688032865 => 60,
-        21608931 => 61,
-        16548 => 62,
-        183685 => 63,
-        447941 => 64,
-        609890598 => 65,
-        17641114317094 => 66,
-        18918 => 67,
-        454 => 68,
-        201 => 69,
-        690471337 => 70,
-        457 => 71,
-        20652 => 72,
-        8507437 => 73,
-        7536 => 74,
-        153586866 => 75,
-        674408626 => 76,
-        489345202 => 77,
-        4755 => 78,
-        19055283 => 79,
-        674996 => 80,
-        5645591 => 81,
-        185940 => 12,
-        5877798 => 12,
-        _ => 13,
-    }
-}
-
-fn name_word(s: &[u8], a: usize, end: usize) -> u64
-    requires { ⌜ (a < end) × (end ≤ length (now s)) ⌝ }
-    ensures { λ r. ⌜ r ≡ nameWord (slice a end (now (s .entry))) ⌝ }
-{
-    if end - a == 1 {
-        if chars::byte_at(s, a) == 95 {
-            return 14;
-        }
-    }
-    keyword(letters(s, a, end))
-}
-
 fn is_name_start(b: u16) -> bool
     ensures { λ r. ⌜ r ≡ isNameStart b ⌝ }
 {
@@ -362,7 +321,7 @@ fn keyword_or_ident(s: &[u8], at: usize) -> Fit
 {
     if is_name_start(chars::byte_at(s, at)) {
         let end = chars::past(s, at, Class::NamePart);
-        Fit::To(end, name_word(s, at, end))
+        Fit::To(end, keywords::name_word(&s[at..end]))
     } else {
         Fit::No
     }

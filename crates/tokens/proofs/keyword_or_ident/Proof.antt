@@ -1,8 +1,10 @@
 use mathlib.Core.Path.{ap, _∙_}
-use mathlib.Core.Path.{ap, _∙_}
+use native.Mathlib.Omega.{arith}
 use Rattle.tokens.proofs.Fits.{so, fails}
 use Rattle.tokens.proofs.Names.{name-inside, name-fits}
+use Rattle.tokens.proofs.Texts.{part-slice}
 use Rattle.tokens.specs.Rules.{isNameStart, nameAt}
+use Rattle.tokens.specs.Words.{nameWord}
 use borrow.Author.Needs.{needs}
 use Rattle.tokens.proofs.keyword_or_ident.Statement.{statement}
 use Rattle.tokens.proofs.keyword_or_ident.Tie as tie
@@ -16,11 +18,20 @@ is-name-start-requires c κs = search needs
 past-requires : tie.Need-past-requires
 past-requires c κs = search needs
 
+sub-name-word : tie.Need-sub-name-word
+sub-name-word c = omega (arith, name-inside (c .before .before .before .before .before .args .s .now) (c .before .before .before .before .before .args .at) (so (c .before .before .is-name-start .ensures ∙ ap isNameStart (c .before .before .before .byte-at .ensures)) (c .before .if1 .taken)) (c .past .ensures))
+
+part-name-word-start : tie.Need-part-name-word-start
+part-name-word-start c = omega (arith, name-inside (c .before .before .before .before .before .args .s .now) (c .before .before .before .before .before .args .at) (so (c .before .before .is-name-start .ensures ∙ ap isNameStart (c .before .before .before .byte-at .ensures)) (c .before .if1 .taken)) (c .past .ensures))
+
+part-name-word-end : tie.Need-part-name-word-end
+part-name-word-end c = omega (arith, name-inside (c .before .before .before .before .before .args .s .now) (c .before .before .before .before .before .args .at) (so (c .before .before .is-name-start .ensures ∙ ap isNameStart (c .before .before .before .byte-at .ensures)) (c .before .if1 .taken)) (c .past .ensures))
+
 name-word-requires : tie.Need-name-word-requires
-name-word-requires c κs = name-inside (c .before .before .before .before .before .args .s .now) (c .before .before .before .before .before .args .at) (so (c .before .before .is-name-start .ensures ∙ ap isNameStart (c .before .before .before .byte-at .ensures)) (c .before .if1 .taken)) (c .past .ensures)
+name-word-requires c κs = search needs
 
 returns : tie.Need-returns
-returns c = name-fits _ _ (so (c .before .before .before .is-name-start .ensures ∙ ap isNameStart (c .before .before .before .before .byte-at .ensures)) (c .before .before .if1 .taken)) (c .before .past .ensures) (c .name-word .ensures)
+returns c = name-fits _ _ (so (c .before .before .before .before .is-name-start .ensures ∙ ap isNameStart (c .before .before .before .before .before .byte-at .ensures)) (c .before .before .before .if1 .taken)) (c .before .before .past .ensures) (c .name-word .ensures ∙ ap nameWord (part-slice (c .before .before .before .before .before .before .before .args .at) (c .before .before .past .result) (c .before .before .before .before .before .before .before .args .s .now)))
 
 returns-2 : tie.Need-returns-2
 unfolding nameAt
@@ -33,6 +44,9 @@ keyword-or-ident-spec =
     byte-at-requires
     is-name-start-requires
     past-requires
+    sub-name-word
+    part-name-word-start
+    part-name-word-end
     name-word-requires
     returns
     returns-2)

@@ -1,0 +1,57 @@
+use mathlib.Core.Path.{_≡_, refl, sym, _∙_}
+use Prim.Native.Nat.{_-_, _≤_}
+use native.Mathlib.Omega.{arith}
+use lib.ListN.{length, drop}
+use Rattle.chars.specs.Texts.{same}
+use Rattle.tokens.proofs.Texts.{same-length, same-more, same-stops, same-end}
+use Rattle.tokens.proofs.keywords.same.Statement.{statement}
+use Rattle.tokens.proofs.keywords.same.Tie as tie
+
+abbrev Inv-loop : tie.InvT-loop
+Inv-loop t u i₀ i = (same (drop i t) (drop i u) ≡ same t u) × (i ≤ length t)
+
+abbrev μ-loop : tie.MeasureT-loop
+μ-loop t u i₀ i = length t - i
+
+returns : tie.Need-returns Inv-loop μ-loop
+returns c = sym (same-length _ _ (c .if1 .taken))
+
+loop-holds : tie.Need-loop-holds Inv-loop μ-loop
+loop-holds c = (refl, omega arith)
+
+shared-slice-read-if2 : tie.Need-shared-slice-read-if2 Inv-loop μ-loop
+shared-slice-read-if2 c = omega arith
+
+shared-slice-read-if2-2 : tie.Need-shared-slice-read-if2-2 Inv-loop μ-loop
+shared-slice-read-if2-2 c = omega arith
+
+returns-2 : tie.Need-returns-2 Inv-loop μ-loop
+returns-2 c = same-stops _ _ _ (c .before .before .before .loop-test .taken) (omega arith) (c .if2 .taken) ∙ c .before .before .before .before .loop .inv .0
+
+add-i : tie.Need-add-i Inv-loop μ-loop
+add-i c = omega arith
+
+loop-less : tie.Need-loop-less Inv-loop μ-loop
+loop-less c = omega arith
+
+loop-again : tie.Need-loop-again Inv-loop μ-loop
+loop-again c = (same-more _ _ _ (c .before .before .before .loop-test .taken) (omega arith) (c .if2 .left) ∙ c .before .before .before .before .loop .inv .0, omega arith)
+
+returns-3 : tie.Need-returns-3 Inv-loop μ-loop
+returns-3 c = same-end _ _ _ (c .loop-test .left) (omega arith) ∙ c .before .loop .inv .0
+
+pub same-spec : {M : Type 1} → statement M
+same-spec =
+    tie.close
+    (tie.spec
+    Inv-loop
+    μ-loop
+    returns
+    loop-holds
+    shared-slice-read-if2
+    shared-slice-read-if2-2
+    returns-2
+    add-i
+    loop-less
+    loop-again
+    returns-3)
