@@ -4,7 +4,7 @@
  * not be null or unaligned, also for 0 elements, and nothing is kept of it. No function allocates, fails or asks anything of the bytes.
  * What each says is proved.
  *
- * (a) and (b) call themselves as deep as a source nests: 9 to 16 KiB of stack for filters of a few levels, 979 KiB for one that nests at all limits
+ * (a) and (b) call themselves as deep as a source nests: 9 to 16 KiB of stack for filters of a few levels, 974 KiB for one that nests at all limits
  * at once (docs/ARCHITECTURE.md, "Stack"). A thread with 1 MiB of stack can read what strangers wrote.
  *
  * An answer is four numbers: the number of docs (README.md), where its place starts and ends, and a count: the rows or
@@ -20,9 +20,17 @@
 extern "C" {
 #endif
 
+/* The rows of an f-string, f"peer {x} down": one of kind 46, which ends before the closing quote and has the parts as children, and
+ * for each text that isn't empty one of kind 47, whose value is its bytes in UTF-8 once escapes are read and pairs of braces halved.
+ * A hole has its expression's own row. README.md has the other kinds. */
+enum lekhyundo_kind {
+    LEKHYUNDO_F_STRING = 46,
+    LEKHYUNDO_TEXT = 47
+};
+
 /* (a) A source to its tree. A row is six numbers: kind, start, end, children, value, detail; children come before their
  * parent. Accepted: the rows stand first in the table and zeros fill the rest. Refused: zeros throughout. Room is
- * table_length / 6; 98,304 rows serve any source. */
+ * table_length / 6; 98,304 rows serve any source. Number 5 is never given. */
 void lekhyundo_tree(const uint8_t *source, size_t source_length, uint64_t *table, size_t table_length,
                     uint64_t *answer, size_t answer_length);
 
@@ -38,15 +46,15 @@ struct lekhyundo_token {
 };
 
 /* (c) A source's tokens. Accepted: they stand first in the list and zero tokens fill the rest. Refused: zero tokens throughout.
- * The numbers are 0 to 5 and 10. No source has more tokens than bytes. */
+ * The numbers are 0 to 5 and 10; 5 stands for an f-string (f"), which only (a) and (b) read. No source has more tokens than bytes. */
 void lekhyundo_token_list(const uint8_t *source, size_t source_length, struct lekhyundo_token *list, size_t list_length,
                           uint64_t *answer, size_t answer_length);
 
 /* The same answer with room for so many tokens, without a list. */
 void lekhyundo_tokens(const uint8_t *source, size_t source_length, size_t room, uint64_t *answer, size_t answer_length);
 
-/* The token at or behind a place, five numbers: 0, start, end, code, word; or its refusal: 4, 5, or 11 at the end of the
- * source, start, end, 0, 0. The next token is had from the end of this one. */
+/* The token at or behind a place, five numbers: 0, start, end, code, word; or its refusal: 4, 5 at an f-string, or 11 at the
+ * end of the source, start, end, 0, 0. The next token is had from the end of this one. */
 void lekhyundo_step(const uint8_t *source, size_t source_length, size_t at, uint64_t *out, size_t out_length);
 
 /* (d) The length of the text of a name row, given its first three numbers: the text starts at source + start. 0 for a row of

@@ -1,6 +1,6 @@
 """readings.py DEEPEST RECORDED ..: cases of entries (a) and (b) in the form of the drivers: document 01's worked pairs and its printer's
-source, each form, literals with every suffix and at the edges of every type, the limits alone and together, the longest sources, the one
-that nests deepest, little room, and the short ones among recorded cases."""
+source, each form, literals with every suffix and at the edges of every type, f-strings, the limits alone and together, the longest sources, the one that nests deepest, little room,
+and the short ones among recorded cases."""
 import itertools, sys
 
 LONGEST, ROOM, SHORT, KEPT = 65535, 10000, 70, 1500
@@ -36,6 +36,28 @@ literals += [b'0x', b'0x0', b'0xfF', b'0x_1', b'0xg', b'0x7fffffffffffffff', b'0
              b"'\\x41' ", b"'\\x7f' ", b"'\\x80' ", b"'\\u{0}' ", b"'\\u{10ffff}' ", b"'\\u{110000}' ", b"'\\u{d800}' ", b"'\\u{1_0}' ", b"'\\u{}' ",
              b"'\n' ", b"'\t' ", b"'\r' ", b"'\"' ", b"'\\", b"'a"]
 
+# F-strings (document 02, C-11): in each place where one may or may not stand, `@` being a whole one, an empty one, one without end and one with a bad text.
+whole = [b'f"a{1}"', b'f""', b'f"', b'f"\\q"']
+places = [b'@', b'(@)', b'-@', b'!@', b'@?', b'@.a', b'@()', b'a(@)', b'a(1, @,)', b'@+1', b'1+@', b'@==@', b'a=@', b'@=1', b'a+=@', b'@+=1', b'{@}', b'{@;}', b'{@;1}', b'{1;@}',
+          b'{let a = @;}', b'{let @ = 1;}', b'{let a: @ = 1;}', b'if @ {}', b'while @ {}', b'for a in @ {}', b'for @ in a {}', b'match @ {}', b'match a {@ => 1}', b'match a {b => @}',
+          b'match a {b => @, c => 1}', b'match a {b if @ => 1}', b'match a {b(@) => 1}', b'{a: @}', b'a {b: @}', b'{@: 1}', b'a {@: 1}', b'return @', b'accept reject @', b'a.@', b'a @',
+          b'@ @', b'@ a', b'@ $', b'if a {@} else {@}', b'f"{@}"', b'f"b{ @ }c"', b'f"@"', b'"@" ']
+f_strings = [place.replace(b'@', text) for place in places for text in whole]
+# Each text alone, before a hole and behind one.
+pieces = [b'\\n', b'\\0', b'\\"', b"\\'", b'\\x7b', b'\\x7b\\x7b', b'\\x7b\\x7d', b'\\u{7d}}', b'{{\\x7b', b'}}}', b'{{}}', b'\\u{e9}', b'\\u{10ffff}', b'\\u{1_}', b'//', b'\n\t',
+          b'\\q', b'\\x', b'\\x4', b'\\x80', b'\\u', b'\\u41', b'\\u {41}', b'\\u{}', b'\\u{_1}', b'\\u{d800}', b'\\u{110000}', b'\\u{1234567}', b'\\u{"}', b'\\u{{41}', b'\\u{41',
+          b'\\U', b'\\U{41}', b'\\{1}', b'\\\n', b'\r', b'\\', b'\x7f', b'\x80']
+f_strings += [b'f"' + before + piece + after + b'"' for piece in pieces for before, after in ((b'', b''), (b'', b'{1}'), (b'{1}', b''))]
+holes = [b'', b' ', b'a b', b'a;', b'a,', b'a:1', b'a:b:c', b'a=', b'a=1', b'1=', b'$', b'0x', b'"', b'"b"', b'"}', b'"}" ', b'return', b'return f"a"', b'if a {} -b', b'{y:1}', b' {y:1} ', b' {f"a"} ', b'x{}',
+         b'x{y:1}', b'a//}"\n', b'\ra\n', b'f"{f"{1}"}"', b'{', b'}', b')', b'(1', b'()', b'if x{y:1}{}']
+f_strings += [before + b'f"{' + hole + b'}"' + after for hole in holes for before, after in ((b'', b''), (b'if ', b' {}'))]
+prefixed = [b'f"a{b}c" ', b'f"\\u{7b}{{}}{"s"} {f"x{1}"}" ', b'{f"{ {a: 1} }"; return f"}" + f"\\\\"}']
+f_strings += [text[:n] for text in prefixed for n in range(len(text) + 1)]
+f_strings += [b'f"' + b''.join(order) for n in range(5) for order in itertools.product((b'"', b'{', b'}', b'a'), repeat=n)]
+declared = [b'const A: u8 = f"a";', b'const A: u8 = ((f"{1}")) ;', b'const A: u8 = f"a"', b'const A: u8 = f"a;', b'const f"a": b = 1;', b'const A: f"a" = 1;', b'fn f() {f"a"}', b'fn f() {f";"}', b'fn f() {} f"',
+            b'fn f"a"() {}', b'fn f(a: f"b") {}', b'f"a"', b'import f"a";', b'import a.{f"b"};', b'test t {f"{a}";}', b'filter f() {reject f"{x}"}',
+            b'fn f(p: Peer) { log(f"peer {p.asn} down after {p.hold_time}s: {p.reason}"); }']
+
 # The four limits: each makes a source that goes so deep, round another.
 around = {
     'parentheses': lambda n, x: b'(' * n + x + b')' * n,
@@ -54,9 +76,10 @@ around = {
     'chain': lambda n, x: b'if a{}' + b'else if a{}' * n + b'else{' + x + b'}',
     'bodies': lambda n, x: b'if a{' * n + x + b'}' * n,
     'arms': lambda n, x: b'match a{b=>' * n + x + b'}' * n,
-    'guards': lambda n, x: b'match a{b if ' * n + x + b'=>c}' * n}
+    'guards': lambda n, x: b'match a{b if ' * n + x + b'=>c}' * n,
+    'holes': lambda n, x: b'f"{ ' * n + x + b'}"' * n}
 limits = [f(n, x) for f in around.values() for n in DEPTHS for x in (b'a', b'', b'0x')]
-together = ('parentheses', 'blocks', 'signs', 'returns', 'ifs', 'fors', 'chain')
+together = ('parentheses', 'blocks', 'signs', 'returns', 'ifs', 'fors', 'chain', 'holes')
 limits += [around[f](n, around[g](m, b'a')) for f, g in itertools.permutations(together, 2) for n in DEPTHS for m in DEPTHS]
 limits += [around['chain'](32, around['ifs'](32, around['parentheses'](n, around['signs'](32, b'a')))) for n in (30, 31, 32)]
 trees = [b'import ' + b'a.{' * n + b'a' + b'}' * n + b';' for n in DEPTHS]
@@ -71,13 +94,14 @@ def filled(before, fill, after, length=LONGEST):
 
 
 long = [(b'a', filled(b'', b' ', b'')), (b'a', filled(b'', b' ', b'', LONGEST + 1)), (b'a', filled(PRINTER, b'\n', PRINTER)),
-        (b'b', filled(b'', b'9', b'u64')), (b'b', filled(b'', b'0', b'255u8')), (b'b', filled(b'', b'0', b'256u8')), (b'b', filled(b'', b'name', b'')), (b'b', filled(b'"', b'text ', b'" ')), (b'b', filled(b'', b'a+', b'a')), (b'a', filled(b'//', b'-', b'\n' + PRINTER, LONGEST - 1))]
+        (b'b', filled(b'', b'9', b'u64')), (b'b', filled(b'', b'0', b'255u8')), (b'b', filled(b'', b'0', b'256u8')), (b'b', filled(b'', b'name', b'')), (b'b', filled(b'"', b'text ', b'" ')), (b'b', filled(b'', b'a+', b'a')), (b'a', filled(b'//', b'-', b'\n' + PRINTER, LONGEST - 1)),
+        (b'b', filled(b'f"', b'{', b'')), (b'b', filled(b'f"', b'{', b'"')), (b'b', filled(b'f"', b'{a}', b'"')), (b'b', filled(b'', b' ', b'f"'))]
 
 cases = [(entry, source, ROOM) for entry, source in [(b'a', b''), (b'a', PRINTER), (b'a', b'#!a'), (b'a', b'\xff'), (b'a', b'const A: u8 = f""'), (b'a', open(sys.argv[1], 'rb').read())] + long]
-cases += [(b'b', source, ROOM) for source in pairs + forms + literals + limits] + [(b'a', source, ROOM) for source in declarations + trees]
+cases += [(b'b', source, ROOM) for source in pairs + forms + literals + f_strings + limits] + [(b'a', source, ROOM) for source in declarations + declared + trees]
 # A table has six numbers for each row of the room and as many more as the source's length leaves by six: 0 to 5 without room.
 cases += [(entry, b'1' * n, 0) for entry in (b'a', b'b') for n in range(6)]
-cases += [(b'b', b'1+2', room) for room in range(5)] + [(b'a', PRINTER, room) for room in range(9)]
+cases += [(b'b', b'1+2', room) for room in range(5)] + [(b'a', PRINTER, room) for room in range(9)] + [(b'b', b'f"a{1}b"' + b' ' * room, room) for room in range(7)]
 for name in sys.argv[2:]:
     recorded, at, kept = open(name, 'rb').read(), 0, 0
     while at < len(recorded) and kept < KEPT:

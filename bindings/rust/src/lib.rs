@@ -20,6 +20,12 @@ pub const MOST_STACK: usize = 1 << 20;
 /// Six numbers: kind, start, end, children, value, detail.
 pub type Row = [u64; 6];
 
+/// Kind of an f-string's row: its children are its parts, a hole's the expression's own row, and it ends before the closing quote.
+pub const F_STRING: u64 = 46;
+
+/// Kind of a text in an f-string: its value is the bytes in UTF-8 once escapes are read and pairs of braces halved. Empty ones have no row.
+pub const TEXT: u64 = 47;
+
 /// A number from 1 to 11, its place, and what is needed for 10.
 #[derive(Clone, Copy, Debug, PartialEq, Eq)]
 pub struct Refusal {
@@ -37,7 +43,7 @@ impl Refusal {
             2 => "byte of 128 or more",
             3 => "source begins `#!`",
             4 => "no token starts here",
-            5 => "f-string",
+            5 => "f-string in a token list",
             6 => "token not usable here",
             7 => "literal without a value",
             8 => "left side of an assignment is no path",
@@ -108,7 +114,7 @@ impl Reader {
     }
 }
 
-/// (c) The tokens of a source.
+/// (c) The tokens of a source; 5 at an f-string, which only trees and expressions have.
 pub fn tokens(source: &[u8]) -> Result<Vec<Token>, Refusal> {
     // No source that is accepted has more tokens than bytes, or more than 65,535 of those.
     let mut list = vec![Token { code: 0, start: 0, end: 0 }; source.len().min(65_536)];

@@ -1,4 +1,4 @@
-use lekhyundo::{Reader, Refusal, Token, decode, name, tokens};
+use lekhyundo::{F_STRING, Reader, Refusal, TEXT, Token, decode, name, tokens};
 
 fn refusal(number: u64, start: usize, end: usize) -> Refusal {
     Refusal { number, start, end, needed: 0 }
@@ -29,7 +29,9 @@ fn refusals_have_their_number_and_place() {
         (b"", 11, 0, 0),
         (b"\xff", 2, 0, 1),
         (b"#!", 3, 0, 2),
-        (b"f\"\"", 5, 0, 2),
+        (b"f\"", 11, 2, 2),
+        (b"f\"\\q\"", 7, 2, 4),
+        (b"a f\"\"", 6, 2, 4),
         (b"$", 4, 0, 1),
     ] {
         assert_eq!(reader.expression(source).err(), Some(refusal(number, start, end)), "{source:?}");
@@ -45,6 +47,18 @@ fn a_value_is_any_number_that_its_suffix_holds() {
     assert_eq!(rows, [[10, 0, 23, 0, u64::MAX, 8]]);
     assert_eq!(reader.expression(b"18446744073709551616u64").err(), Some(refusal(7, 0, 23)));
     assert_eq!(reader.expression(b"300u8").err(), Some(refusal(7, 0, 5)));
+}
+
+#[test]
+fn an_f_string_has_its_texts_and_its_holes() {
+    let mut reader = Reader::default();
+    let rows: Vec<_> = reader.expression(br#"f"{{peer}} {x} down""#).unwrap().collect();
+    assert_eq!(
+        rows,
+        [[TEXT, 2, 11, 0, 7, 0], [1, 12, 13, 0, 0, 0], [2, 12, 13, 1, 0, 0], [TEXT, 14, 19, 0, 5, 0], [F_STRING, 0, 19, 3, 0, 0]]
+    );
+    assert_eq!(reader.expression(b"f\"\"").unwrap().collect::<Vec<_>>(), [[F_STRING, 0, 2, 0, 0, 0]]);
+    assert_eq!(tokens(b"f\"\""), Err(refusal(5, 0, 2)));
 }
 
 #[test]

@@ -2,7 +2,7 @@ use std::thread;
 
 use lekhyundo::{MOST_STACK, Reader, Refusal};
 
-/// The source that takes most stack of all that document 01's limits let stand; `tools/stack` found it.
+/// The source that takes most stack of all that the limits let stand; `tools/stack` found it.
 const DEEPEST: &[u8] = include_bytes!("../../../vectors/deepest");
 
 #[test]

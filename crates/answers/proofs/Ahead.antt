@@ -1,13 +1,13 @@
 -- What the lexer says at a place: a token has a byte at least, ends within the source, and its word is above 0 and below 99; else it
--- is the end, or a refusal 4 or 5.
+-- is the end, or a refusal 4 or 5; 5 has two bytes of the source. And what is scanned as text.
 use mathlib.Core.Path.{_≡_, refl, sym, ap, subst, _∙_}
 use mathlib.Core.List.{List, [], _∷_}
 use mathlib.Core.Bool.{Bool, true, false, not, _&&_, _||_}
 use mathlib.Core.Logic.{_⊎_, inl, inr}
 use Prim.Native.Nat.{ℕ, zero, suc, _+_, _-_, _≤_, _<_}
-use lib.Dec.{T, eqb, ltb, ltb→lt}
+use lib.Dec.{T, eqb, ltb, ltb→lt, eqb→eq}
 use lib.ListN.{length}
-use lib.Seq.{slice}
+use lib.Seq.{slice, slice-empty}
 use native.Mathlib.Decide.{decLe}
 use native.Mathlib.Omega.{arith}
 use Rattle.chars.specs.declared.Class.the-variants.{Digit, Figure, HexDigit, HexColon, NamePart}
@@ -26,10 +26,20 @@ use Rattle.tokens.specs.Words.{Entry, twoSigns, oneSigns, keywords, wordIn, two
 use Rattle.tokens.specs.Blanks.{skipAll}
 use Rattle.tokens.specs.Rules.{whenFit, signFit, thenFit, pairAt, ipv6At, periodAt, ipv4At, twoAt, oneAt, asAt, hexAt, fractionAt, numberAt, goesOn, escapes, quoteAt, isNameStart, nameAt, taken, refused, orElse, tokenAt}
 use Rattle.tokens.specs.Tokens.{stepAt}
-use Rattle.grammar.specs.Grammar.{found}
+use Rattle.strings.specs.declared.Size.{Size}
+use Rattle.strings.specs.Strings.{codesFrom}
+use Rattle.strings.specs.Utf8.{encode}
+use Rattle.texts.specs.declared.Part.{Part}
+use Rattle.texts.specs.declared.Part.the-variants.{Before, Ends, None}
+use Rattle.texts.specs.Parts.{partAt}
+use Rattle.texts.specs.Texts.{halved, textOf}
+use Rattle.texts.proofs.Parts.{Parted, parted-before, parted-ends, parted-none, part-lies}
+use Rattle.grammar.specs.Words.{text-then-hole, last-text}
+use Rattle.grammar.specs.Rows.{token-nodes}
+use Rattle.grammar.specs.Grammar.{found, ite, one-of}
 use Rattle.grammar.specs.Grammar as grammar
 use Rattle.grammar.proofs.Bools.{and-l, and-r}
-use Rattle.answers.specs.Source.{source, lookOf, lookAfter}
+use Rattle.answers.specs.Source.{source, lookOf, lookAfter, textToken, pieceOf}
 
 true-T : {b : Bool} → b ≡ true → T b
 true-T e = subst T (sym e) tt
@@ -280,16 +290,21 @@ module _ (s : List ℕ) where
   pub data Steps (at : ℕ) : Step → Type 0 where
     steps-token : {t : Token} {w : ℕ} {next : Cursor} → at < next .at → next .at ≤ length s → 0 < w → w < 99 → Steps at (Taken t w next)
     steps-over : Steps at (Refused (record { number = 11; start = length s; end = length s }))
-    steps-wrong : {r : Refusal} → (r .number ≡ 4) ⊎ (r .number ≡ 5) → Steps at (Refused r)
+    steps-quote : {r : Refusal} → r .number ≡ 5 → at < r .end → r .end ≤ length s → Steps at (Refused r)
+    steps-wrong : {r : Refusal} → r .number ≡ 4 → Steps at (Refused r)
 
   steps-or : {at : ℕ} {f : Fit} {d : Step} → Goes at f → Steps at d → Steps at (orElse at f d)
   unfolding orElse taken
   steps-or (goes-to h k p w) n = steps-token h k p w
   steps-or goes-no n = n
 
-  steps-pick : {at : ℕ} (b : Bool) {x d : Step} → Steps at x → Steps at d → Steps at (pick b x d)
-  steps-pick true h k = h
+  steps-pick : {at : ℕ} (b : Bool) {x d : Step} → (b ≡ true → Steps at x) → Steps at d → Steps at (pick b x d)
+  steps-pick true h k = h refl
   steps-pick false h k = k
+
+  quote-in : (at : ℕ) → pairAt s at 102 34 ≡ true → at + 2 ≤ length s
+  unfolding pairAt
+  quote-in at e = let h = byte-inside (at + 1) 34 refl (right-true (eqb (byteAt s at) 102) (eqb (byteAt s (at + 1)) 34) e) in omega arith
 
   steps-at : (at : ℕ) → at < length s → Steps at (tokenAt s at)
   unfolding tokenAt refused
@@ -301,15 +316,16 @@ module _ (s : List ℕ) where
       (steps-or (goes-as at h)
       (steps-or (goes-hex at h)
       (steps-or (goes-number at h)
-      (steps-pick (pairAt s at 102 34) (steps-wrong (inr refl))
+      (steps-pick (pairAt s at 102 34) (λ e. steps-quote refl (omega arith) (quote-in at e))
       (steps-or (goes-quote at h 34 9 (omega arith) (omega arith))
       (steps-or (goes-quote at h 39 10 (omega arith) (omega arith))
       (steps-or (goes-name at h)
-      (steps-wrong (inl refl))))))))))))
+      (steps-wrong refl)))))))))))
 
   steps-from : {at a : ℕ} {k : Step} → at ≤ a → Steps a k → Steps at k
   steps-from h (steps-token {next = next} l m p w) = steps-token {next = next} (omega arith) m p w
   steps-from h steps-over = steps-over
+  steps-from h (steps-quote {r = r} c l m) = steps-quote {r = r} c (omega arith) m
   steps-from h (steps-wrong c) = steps-wrong c
 
   pub step-goes : (at : ℕ) → Steps at (stepAt s at)
@@ -327,10 +343,52 @@ module _ (s : List ℕ) where
   pub tokens-take : (x : grammar.Token) (i j : ℕ) → (source s) .look i ≡ found x j → ahead j < ahead i
   tokens-take x i j e = go (stepAt s i) (step-goes i) e
     where
-      after : (c : Bool) (r : Refusal) → lookAfter c r ≡ found x j → ahead j < ahead i
-      after true r q = let z : _≡_ {A = ℕ} 0 1 = cc in absurd (omega arith)
-      after false r q = let z : _≡_ {A = ℕ} 0 1 = cc in absurd (omega arith)
+      after : (c q : Bool) (r : Refusal) → (T q → (i < r .end) × (r .end ≤ length s)) → lookAfter c q r ≡ found x j → ahead j < ahead i
+      after true q r h f = let z : _≡_ {A = ℕ} 0 1 = cc in absurd (omega arith)
+      after false true r h f = let z : r .end ≡ j = cc in let k = h tt in omega (arith, z, k .0, k .1)
+      after false false r h f = let z : _≡_ {A = ℕ} 0 1 = cc in absurd (omega arith)
 
       go : (k : Step) → Steps i k → lookOf s k ≡ found x j → ahead j < ahead i
       go (Taken t w next) (steps-token h m p v) q = let z : next .at ≡ j = cc in omega arith
-      go (Refused r) h q = after (eqb (r .number) 11) r q
+      go (Refused r) (steps-quote c l m) q = after (eqb (r .number) 11) (eqb (r .number) 5) r (λ t. (l, m)) q
+      go (Refused r) steps-over q = let z : _≡_ {A = ℕ} 0 1 = cc in absurd (omega arith)
+      go (Refused r) (steps-wrong c) q = after (eqb (r .number) 11) (eqb (r .number) 5) r (λ t. let z : _≡_ {A = ℕ} 4 5 = sym c ∙ eqb→eq (r .number) 5 t in absurd (omega (arith, z))) q
+
+  -- a piece that has a row has a byte
+  no-text-row : (i e : ℕ) → e ≡ i → token-nodes (textToken text-then-hole i e (textOf (slice i e s))) ≡ 0
+  unfolding textOf codesFrom halved encode
+  no-text-row i e q = ap (λ (t : List ℕ). token-nodes (textToken text-then-hole i e (textOf t))) (ap (λ (n : ℕ). slice i n s) q ∙ slice-empty i s)
+
+  pub pieces-take : (x : grammar.Token) (i j : ℕ) → (source s) .piece i ≡ found x j → ahead j + token-nodes x ≤ ahead i
+  pieces-take x i j e = go (partAt s i) (part-lies s i) e
+    where
+      most : (w a b : ℕ) (z : Size) → token-nodes (textToken w a b z) ≤ 1
+      most w a b (Size.Is n) = two (one-of w (text-then-hole ∷ last-text ∷ [])) (eqb n 0)
+        where
+          two : (c d : Bool) → ite c (ite d 0 1) 0 ≤ 1
+          two true true = omega arith
+          two true false = omega arith
+          two false d = omega arith
+      most w a b Size.None = two (one-of w (text-then-hole ∷ last-text ∷ []))
+        where
+          two : (c : Bool) → ite c 0 0 ≤ 1
+          two true = omega arith
+          two false = omega arith
+
+      go : (k : Part) → Parted i (length s) k → pieceOf s i k ≡ found x j → ahead j + token-nodes x ≤ ahead i
+      go (Before e) (parted-before h m) q =
+          let z : e ≡ j = cc in
+          let y : textToken text-then-hole i e (textOf (slice i e s)) ≡ x = cc in
+          let n = most text-then-hole i e (textOf (slice i e s)) in
+          let n′ = ap token-nodes y in
+          elim (decLe e i) [
+            | yes f ↦ (let o = no-text-row i e (omega arith) in omega (arith, z, o, n′, h, m))
+            | no f ↦ omega (arith, z, n, n′, h, m, f)
+          ]
+      go (Ends e) (parted-ends h m) q =
+          let z : e + 1 ≡ j = cc in
+          let y : textToken last-text i e (textOf (slice i e s)) ≡ x = cc in
+          let n = most last-text i e (textOf (slice i e s)) in
+          let n′ = ap token-nodes y in
+          omega (arith, z, n, n′, h, m)
+      go None parted-none q = let z : _≡_ {A = ℕ} 0 1 = cc in absurd (omega arith)

@@ -9,28 +9,25 @@ use Rattle.tokens.specs.declared.Answer as tokens
 use Rattle.tokens.specs.declared.Whole.{Whole}
 use Rattle.tokens.specs.declared.Whole.the-variants.{Fine, Refused as Bad}
 use Rattle.tokens.specs.Tokens.{wholeOf, refusal}
+use Rattle.grammar.specs.Words.{f-quote}
 use Rattle.grammar.specs.Grammar.{Token, found, over, wrong, Parts}
 use Rattle.grammar.specs.Readings.{Text}
 use Rattle.grammar.specs.Rows.{rows, token-nodes}
 use Rattle.grammar.specs.Language.{roto, goal}
 use Rattle.grammar.specs.Refusals.{Why, Refusal, said}
 use Rattle.grammar.specs.Answers.{Answer, refused, Answers}
-use Rattle.grammar.specs.Culprit.{Before, FreeText, Culprit}
+use Rattle.grammar.specs.Culprit.{Clean, Before, FreeText, Culprit}
 use Rattle.grammar.proofs.Demand.{row-bound, an-answer}
 use Rattle.grammar.proofs.Culprits.{refusal-6, refusal-11}
 use Rattle.answers.specs.Source.{source}
 use Rattle.answers.specs.Entries.{answerFor, tableFor, Permitted, early, read}
-use Rattle.answers.proofs.Ahead.{ahead, tokens-take}
+use Rattle.answers.proofs.Ahead.{ahead, tokens-take, pieces-take}
 use Rattle.answers.proofs.Scans.{look-few}
 
 module _ (tests tree : Bool) (s : List ℕ) where
-  -- no piece of text is scanned
-  no-piece : (x : Token) (i j : ℕ) → over ≡ found x j → ahead s j + token-nodes x ≤ ahead s i
-  no-piece x i j e = let z : _≡_ {A = ℕ} 0 1 = cc in absurd (omega arith)
-
   -- at most 1.5 rows a byte and one more
   pub rows-bound : {p : Parts} → Text (source s) (roto tests) (goal tree) 0 p → 2 * length (rows tree (length s) p) ≤ 3 * length s + 2
-  rows-bound x = let h = row-bound (source s) tests tree (length s) (ahead s) (tokens-take s) no-piece x in omega arith
+  rows-bound x = let h = row-bound (source s) tests tree (length s) (ahead s) (tokens-take s) (pieces-take s) x in omega arith
 
   -- 98,304 rows serve any source
   pub rows-fit : {p : Parts} → Text (source s) (roto tests) (goal tree) 0 p → length s ≤ 65535 → length (rows tree (length s) p) ≤ 98304
@@ -40,19 +37,19 @@ module _ (tests tree : Bool) (s : List ℕ) where
   few : (at n a b : ℕ) → (source s) .look at ≡ wrong n a b → n < 6
   few at n a b e = look-few s at n a b e
 
-  pub culprit-6 : {a : Answer} (r : Refusal) → Answers (source s) tests tree (length s) 0 a → a ≡ refused r → r .number ≡ 6 → (z : ℕ) × (y : Why) × (r ≡ said (length s) ((source s) .look z) y) × Culprit (source s) tests tree 0 z
-  culprit-6 = refusal-6 (source s) tests tree (ahead s) (tokens-take s) (λ i. tt) (length s) few
+  pub culprit-6 : {a : Answer} (r : Refusal) → Clean (source s) f-quote 0 → Answers (source s) tests tree (length s) 0 a → a ≡ refused r → r .number ≡ 6 → (z : ℕ) × (y : Why) × (r ≡ said (length s) ((source s) .look z) y) × Culprit (source s) tests tree 0 z
+  culprit-6 = refusal-6 (source s) tests tree (ahead s) (tokens-take s) (length s) few
 
   -- for 11, the whole source begins some text
-  pub culprit-11 : {a : Answer} (r : Refusal) → Answers (source s) tests tree (length s) 0 a → a ≡ refused r → r .number ≡ 11 → (z : ℕ) × ((source s) .look z ≡ over) × (ts : List Token) × (p : Parts) × Before (source s) z 0 ts × FreeText tests tree ts p
-  culprit-11 = refusal-11 (source s) tests tree (ahead s) (tokens-take s) (λ i. tt) (length s) few
+  pub culprit-11 : {a : Answer} (r : Refusal) → Clean (source s) f-quote 0 → Answers (source s) tests tree (length s) 0 a → a ≡ refused r → r .number ≡ 11 → (z : ℕ) × ((source s) .look z ≡ over) × (ts : List Token) × (p : Parts) × Before (source s) z 0 ts × FreeText tests tree ts p
+  culprit-11 = refusal-11 (source s) tests tree (ahead s) (tokens-take s) (length s) few
 
   -- every source has an answer, and by `one-permitted` no other
   pub a-permitted : (size : ℕ) → (a : tokens.Answer) × (t : List ℕ) × Permitted tests tree s size a t
   a-permitted size = go (wholeOf s) refl
     where
-      kept-back : (x : Token) (i j : ℕ) → over ≡ found x j → ahead s j ≤ ahead s i
-      kept-back x i j e = let z : _≡_ {A = ℕ} 0 1 = cc in absurd (omega arith)
+      kept-back : (x : Token) (i j : ℕ) → (source s) .piece i ≡ found x j → ahead s j ≤ ahead s i
+      kept-back x i j e = let q = pieces-take s x i j e in omega arith
 
       go : (w : Whole) → wholeOf s ≡ w → (a : tokens.Answer) × (t : List ℕ) × Permitted tests tree s size a t
       go (Bad r) e = (refusal r, replicate size 0, early e)

@@ -14,6 +14,8 @@ use Rattle.addresses.specs.Addresses.{exactly, octetsOf, quadOf, gap, sideOf, f
 use Rattle.strings.specs.Escapes.{simpleOf, asciiOf, scalarOf, unicodeOf, plainEscape, escapeOf, pieceOf}
 use Rattle.strings.specs.Strings.{codesFrom, measureOf, isQuoted, sizeOf, wholly, charOf}
 use Rattle.strings.specs.Utf8.{utf8, encode}
+use Rattle.texts.specs.Parts.{pastOpen, pastClose, pastCode, pastEscape, pastItem, pastItems, endAt, partAt}
+use Rattle.texts.specs.Texts.{halved, textOf}
 use Rattle.values.specs.Literals.{boolOf, literalOf}
 use Rattle.grammar.specs.Limits.{after, inside, kept}
 use Rattle.grammar.specs.Rows.{row-of, take-note, add-token, write, rows-from, rows, phrase-row, is-path}
@@ -26,7 +28,7 @@ unfolding byteAt isClass span pastSpan pastRun bytes same twoSigns oneSigns keyw
 lexer = tt
 
 unfoldable pub values : Unit {0}
-unfolding choose digitOf valueFrom allBelow plain numberFrom numberOf ahead untilByte placeIn suffixOf ceilingOf asInteger integerWith integerOf floatWith floatOf hexOf asOf shortOf groupOf parts valuesOf exactly octetsOf quadOf gap sideOf filled groupsOf wideOf simpleOf asciiOf scalarOf unicodeOf plainEscape escapeOf pieceOf codesFrom measureOf isQuoted sizeOf wholly charOf utf8 encode boolOf literalOf
+unfolding choose digitOf valueFrom allBelow plain numberFrom numberOf ahead untilByte placeIn suffixOf ceilingOf asInteger integerWith integerOf floatWith floatOf hexOf asOf shortOf groupOf parts valuesOf exactly octetsOf quadOf gap sideOf filled groupsOf wideOf simpleOf asciiOf scalarOf unicodeOf plainEscape escapeOf pieceOf codesFrom measureOf isQuoted sizeOf wholly charOf utf8 encode boolOf literalOf pastOpen pastClose pastCode pastEscape pastItem pastItems endAt partAt halved textOf
 values = tt
 
 unfoldable pub reader : Unit {0}

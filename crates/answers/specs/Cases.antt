@@ -166,7 +166,22 @@ cases =
     -- at one token 4 or 5, then 6 or 8, then 9, then 7; 3 before all
     tree-fails "#!" 3 0 2 ∷
     expr-fails "a $" 4 2 3 ∷
-    expr-fails "f\"a\"" 5 0 2 ∷
+    -- C-11: strings with expressions inside
+    expr-has "f\"peer {x} down\"" (row 47 2 7 0 5 0 ∷ row 1 8 9 0 0 0 ∷ row 2 8 9 1 0 0 ∷ row 47 10 15 0 5 0 ∷ row 46 0 15 3 0 0 ∷ []) ∷
+    expr-has "f\"\"" (row 46 0 2 0 0 0 ∷ []) ∷
+    expr-has "f\"}}}\"" (row 47 2 5 0 2 0 ∷ row 46 0 5 1 0 0 ∷ []) ∷
+    expr-has "f\"\\u{7b}\\u{7b}\"" (row 47 2 14 0 1 0 ∷ row 46 0 14 1 0 0 ∷ []) ∷
+    expr-has "{f\"a\"}" (row 47 3 4 0 1 0 ∷ row 46 1 4 1 0 0 ∷ row 35 0 6 1 1 0 ∷ []) ∷
+    expr-has "f\"{f\"{a}\"}\" + b" (row 1 6 7 0 0 0 ∷ row 2 6 7 1 0 0 ∷ row 46 3 8 1 0 0 ∷ row 46 0 10 1 0 0 ∷ row 1 14 15 0 0 0 ∷ row 2 14 15 1 0 0 ∷ row 20 0 15 2 0 9 ∷ []) ∷
+    expr-has "if f\"{x {y:1}}\" {}" (row 1 6 7 0 0 0 ∷ row 2 6 7 1 0 0 ∷ row 1 9 10 0 0 0 ∷ row 10 11 12 0 1 0 ∷ row 37 9 12 2 0 0 ∷ row 36 6 13 2 1 0 ∷ row 46 3 14 1 0 0 ∷ row 35 16 18 0 0 0 ∷ row 28 0 18 2 0 0 ∷ []) ∷
+    expr-fails "f\"{}\"" 6 3 4 ∷
+    expr-fails "f\"{a b}\"" 6 5 6 ∷
+    expr-fails "f\"a" 11 3 3 ∷
+    expr-fails "f\"{" 11 3 3 ∷
+    expr-fails "f\"\\u\" $" 11 7 7 ∷
+    expr-fails "f\"a\\q{x}\"" 7 2 5 ∷
+    expr-fails "a f\"x\"" 6 2 4 ∷
+    expr-fails "f\"{f\"{f\"{f\"{f\"{f\"{f\"{f\"{f\"{f\"{f\"{f\"{f\"{f\"{f\"{f\"{f\"{f\"{f\"{f\"{f\"{f\"{f\"{f\"{f\"{f\"{f\"{f\"{f\"{f\"{f\"{f\"{f\"{a" 9 98 99 ∷
     expr-fails ") \"x" 6 0 1 ∷
     expr-fails "99999999999999999999 $" 7 0 20 ∷
     expr-fails "a 99999999999999999999" 6 2 22 ∷

@@ -3,7 +3,8 @@ use mathlib.Core.List.{List, [], _∷_}
 use mathlib.Core.Bool.{Bool, true, false, not, _&&_}
 use Prim.Native.Nat.{ℕ}
 use lib.Dec.{T}
-use Rattle.grammar.specs.Words.{the-end}
+use Rattle.grammar.specs.Words.{the-end, f-quote}
+use Rattle.grammar.specs.Kinds.{HOLE}
 use Rattle.grammar.specs.Grammar.{Rule, one-of}
 use Rattle.grammar.specs.Choice.{see}
 use Rattle.grammar.specs.Language.{roto, start}
@@ -11,7 +12,8 @@ use Rattle.grammar.proofs.Good.{closed, all-good, all-full}
 use Rattle.grammar.proofs.Count.{all-light}
 use Rattle.grammar.proofs.Decided.{all-grounded}
 use Rattle.grammar.proofs.Barred.{all-steady, eats}
-use Rattle.grammar.proofs.Viable.{all-live, grows, tails, all-textless}
+use Rattle.grammar.proofs.Viable.{all-live, grows, tails}
+use Rattle.grammar.proofs.Quiet.{tame, all-tame}
 
 -- no two rules are of one kind
 abbrev kinds : List Rule → List ℕ
@@ -71,11 +73,15 @@ goal-grows true false = tt
 goal-grows false true = tt
 goal-grows false false = tt
 
--- until C-11 the table has no text
-pub roto-textless : (b : Bool) → T (all-textless ((roto b) .rules))
+-- text stands behind `f"` alone
+pub roto-tame : (b : Bool) → T (all-tame f-quote (HOLE ∷ []) ((roto b) .rules))
 unfolding roto
-roto-textless true = tt
-roto-textless false = tt
+roto-tame true = tt
+roto-tame false = tt
+
+pub goal-tame : (c : Bool) → T (tame f-quote (HOLE ∷ []) (start c))
+goal-tame true = tt
+goal-tame false = tt
 
 -- no kind begins with itself
 pub roto-grounded : (b : Bool) → T (all-grounded (roto b) ((roto b) .rules))

@@ -8,6 +8,7 @@ pub mod Summary
 pub mod Count
 pub mod Barred
 pub mod Viable
+pub mod Quiet
 pub mod Decided
 pub mod Checks
 pub mod Demand

@@ -7,14 +7,14 @@ use mathlib.Core.Option.{none, some}
 use mathlib.Core.Logic.{_⊎_, inl, inr}
 use Prim.Native.Nat.{ℕ}
 use lib.Dec.{T, eqb}
-use Rattle.grammar.specs.Grammar.{Ask, Scope, same, found, Stream, Symbol, token, phrase, unless, note, left-side, Token, Parts, end, leaf, node, mark, Language, ite, one-of}
+use Rattle.grammar.specs.Grammar.{Ask, has-value, Scope, same, found, Stream, Symbol, token, phrase, unless, note, left-side, text, Token, Parts, end, leaf, node, mark, Language, ite, one-of}
 use Rattle.grammar.specs.Limits.{Counts, after, inside, kept}
 use Rattle.grammar.specs.Choice.{chosen}
-use Rattle.grammar.specs.Readings.{peek, reads-end, reads-token, reads-phrase, reads-unless, reads-note, reads-side}
+use Rattle.grammar.specs.Readings.{peek, reads-end, reads-token, reads-phrase, reads-unless, reads-note, reads-side, reads-text}
 use Rattle.grammar.specs.Runs.{view, may, Run}
-use Rattle.grammar.specs.Refusals.{Why, want, amiss, past, left, lacks, Stops, stops-want, stops-past, stops-token, stops-none, stops-in, stops-after, stops-unless, stops-note, stops-left, stops-side-after}
+use Rattle.grammar.specs.Refusals.{Why, want, amiss, past, left, unread, ill, lacks, torn, Stops, stops-want, stops-past, stops-token, stops-none, stops-in, stops-after, stops-unless, stops-note, stops-left, stops-side-after, stops-torn, stops-ill, stops-text}
 use Rattle.grammar.specs.Table.{rest-kinds}
-use Rattle.grammar.specs.Rows.{Row, Draft, take-note, write, blank, children-of, first-row, phrase-row, is-path}
+use Rattle.grammar.specs.Rows.{Row, Draft, take-note, add-token, write, blank, children-of, first-row, phrase-row, is-path}
 use Rattle.grammar.specs.Language.{roto}
 use Rattle.grammar.specs.Phrases.{Read, Refused}
 use Rattle.grammar.proofs.Frame.{no-text, plain-word, with-own, write-phrase, write-rest, write-token, write-note, write-two}
@@ -75,6 +75,20 @@ module _ (S : Stream) (l : Language) where
         close = λ z b r. x .close z b (r .0, mark k (r .1), reads-note (r .2), subst (λ (y : Draft). Runs ks (r .0) z y b) (sym (write-note k (r .1) a)) (r .3));
         halt = λ z y f. elim f [ inl q ↦ x .halt z y (inl (stops-note q)) | inr q ↦ x .halt z y (inr (q .0, mark k (q .1), reads-note (q .2), q .3)) ];
       }
+
+      -- a piece of text (C-11), and where a hole follows it a phrase
+      pub scan : {s : List Symbol} {n : ℕ} {t : Token} {k : S .Place} → S .piece j ≡ found t k → T (kept has-value d t) → Open d₀ o₀ n₀ i (record { at = d; syms = text n ∷ s } ∷ ks) j a → Open d₀ o₀ n₀ i (record { at = after has-value d; syms = ite (eqb (t .word) (l .hole)) (phrase same n ∷ s) s } ∷ ks) k (add-token t a)
+      unfolding write
+      scan {t = t} {k = k} e h x = record {
+        close = λ z b r. x .close z b (r .0, leaf t (r .1), reads-text e h (r .2), r .3);
+        halt = λ z y f. elim f [ inl q ↦ x .halt z y (inl (stops-text e h q)) | inr q ↦ x .halt z y (inr (q .0, leaf t (q .1), reads-text e h (q .2), q .3)) ];
+      }
+
+      pub tears : {s : List Symbol} {n : ℕ} → T (torn (S .piece j)) → Open d₀ o₀ n₀ i (record { at = d; syms = text n ∷ s } ∷ ks) j a → Refused S l d₀ o₀ n₀ i j unread
+      tears h x = x .halt j _ (inl (stops-torn h))
+
+      pub spoils : {s : List Symbol} {n : ℕ} {t : Token} {k : S .Place} → S .piece j ≡ found t k → T (not (kept has-value d t)) → Open d₀ o₀ n₀ i (record { at = d; syms = text n ∷ s } ∷ ks) j a → Refused S l d₀ o₀ n₀ i j (ill t)
+      spoils e h x = x .halt j _ (inl (stops-ill e h))
 
       -- the rest of the phrase is gone into
       pub within : {s : List Symbol} {o : Scope} {n : ℕ} (c : List Symbol) → one-of n rest-kinds ≡ true → chosen l n (view S l j) ≡ some c → Open d₀ o₀ n₀ i (record { at = d; syms = phrase o n ∷ s } ∷ ks) j a → Open d₀ o₀ n₀ i (record { at = inside o d; syms = c } ∷ record { at = d; syms = s } ∷ ks) j a

@@ -3,6 +3,7 @@
 use mathlib.Core.Path.{_≡_}
 use mathlib.Core.List.{List, [], _∷_}
 use mathlib.Core.Bool.{Bool, true}
+use Prim.Native.Nat.{ℕ}
 use Rattle.grammar.specs.Grammar.{Ask, Token, Look, found, over, Stream, Parts}
 use Rattle.grammar.specs.Limits.{Counts, zeros}
 use Rattle.grammar.specs.Readings.{ReadingBy}
@@ -23,7 +24,19 @@ any g d x = true
 abbrev pub FreeText : Bool → Bool → List Token → Parts → Type 0
 FreeText tests tree ts p = ReadingBy lists (roto tests) any zeros (start tree) ts [] p
 
+-- The same tokens, and no text.
+abbrev pub textless : Stream → Stream
+textless S = record { Place = S .Place; look = S .look; piece = λ i. over }
+
 module _ (S : Stream) where
+  -- The places that the tokens from i on come to; "sources with f-strings are left out": no token from i on is this word.
+  pub data Reach : S .Place → S .Place → Type 0 where
+    reach-here : {i : S .Place} → Reach i i
+    reach-on : {x : Token} {i j z : S .Place} → S .look i ≡ found x j → Reach j z → Reach i z
+
+  abbrev pub Clean : ℕ → S .Place → Type 0
+  Clean quote i = (x : Token) (j k : S .Place) → Reach i j → S .look j ≡ found x k → x .word ≡ quote → ⊥
+
   -- The text begins with the tokens from i on that stand before z.
   pub data Before (z : S .Place) : S .Place → List Token → Type 0 where
     before-here : {ts : List Token} → Before z z ts

@@ -108,6 +108,12 @@ LET-TYPE = 31
 abbrev pub LITERAL : ℕ
 LITERAL = 32
 
+abbrev pub F-STRING : ℕ
+F-STRING = 89
+
+abbrev pub HOLE : ℕ
+HOLE = 90
+
 abbrev pub PARENS : ℕ
 PARENS = 33
 

@@ -3,8 +3,8 @@ use mathlib.Core.Path.{_≡_}
 use mathlib.Core.List.{List, [], _∷_}
 use mathlib.Core.Bool.{true, false}
 use mathlib.Core.Option.{some}
-use Prim.Native.Nat.{ℕ, _+_}
-use Rattle.grammar.specs.Words.{name, '==', '=', '-', open-paren, close-paren, comma}
+use Prim.Native.Nat.{ℕ, zero, suc, _+_}
+use Rattle.grammar.specs.Words.{name, f-quote, text-then-hole, last-text, '==', '=', '-', open-brace, close-brace, open-paren, close-paren, comma}
 use Rattle.grammar.specs.Grammar.{Token}
 use Rattle.grammar.specs.Rows.{Row}
 use Rattle.grammar.specs.Answers.{Answer, accepted, refused}
@@ -15,6 +15,10 @@ use Rattle.grammar.specs.Culprit.{lists}
 abbrev pub tokens-from : ℕ → List ℕ → List Token
 tokens-from i [] = []
 tokens-from i (w ∷ ws) = record { word = w; start = i; end = i + 1; holds = true; kind = 0; value = 0; detail = 0 } ∷ tokens-from (i + 1) ws
+
+abbrev pub times : ℕ → ℕ → List ℕ → List ℕ
+times zero w ws = ws
+times (suc n) w ws = w ∷ times n w ws
 
 abbrev pub a-row : ℕ → ℕ → ℕ → ℕ → Row
 a-row k s e c = record { kind = k; start = s; end = e; children = c; value = 0; detail = 0 }
@@ -34,8 +38,12 @@ samples =
     record { words = name ∷ open-paren ∷ close-paren ∷ '=' ∷ name ∷ []; answer = refused (record { number = 8; start = 0; end = 3 }) } ∷
     -- `-(a)`: parentheses widen no span
     record { words = '-' ∷ open-paren ∷ name ∷ close-paren ∷ []; answer = accepted (a-row 1 2 3 0 ∷ a-row 2 2 3 1 ∷ a-row 22 0 3 1 ∷ []) } ∷
+    -- `f"{a}"`: the hole's expr is the string's only part, as its texts are empty
+    record { words = f-quote ∷ text-then-hole ∷ open-brace ∷ name ∷ close-brace ∷ last-text ∷ []; answer = accepted (a-row 1 3 4 0 ∷ a-row 2 3 4 1 ∷ a-row 46 0 6 1 ∷ []) } ∷
+    -- 32 `(` and a hole: it counts as one open bracket
+    record { words = times 32 open-paren (f-quote ∷ text-then-hole ∷ open-brace ∷ []); answer = refused (record { number = 9; start = 34; end = 35 }) } ∷
     []
 
 abbrev pub Holds : List Sample → Type 0
 Holds [] = Unit {0}
-Holds (x ∷ xs) = (answer lists true false 9 100 (tokens-from 0 (x .words)) ≡ some (x .answer)) × Holds xs
+Holds (x ∷ xs) = (answer lists true false 9 500 (tokens-from 0 (x .words)) ≡ some (x .answer)) × Holds xs

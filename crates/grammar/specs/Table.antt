@@ -4,9 +4,9 @@
 use mathlib.Core.List.{List, [], _∷_, _++_}
 use mathlib.Core.Bool.{Bool, not}
 use Prim.Native.Nat.{ℕ}
-use Rattle.grammar.specs.Words.{name, underscore, '=>', '&&', '||', '->', open-brace, close-brace, open-paren, close-paren, open-bracket, close-bracket, ':', semicolon, comma, dot, '=', '?', '!', '-', 'const', 'else', 'for', 'fn', 'if', 'import', 'in', 'let', 'match', 'test', 'while', names, path-items, literals, assign-signs, compare-signs, sum-signs, product-signs, return-words, filter-words, four-words}
-use Rattle.grammar.specs.Grammar.{plain, has-value, opens-bracket, closes-bracket, is-prefix, is-head, is-else-if, same, body, Symbol, token, phrase, unless, note, left-side, Rule, ite}
-use Rattle.grammar.specs.Kinds.{records, no-records, TREE, DECLARATIONS, DECLARATION, PARAMS, RESULT, TYPED-NAMES, TYPED-NAMES-MORE, TYPED-NAME, NAME, IMPORT, IMPORTED, IMPORTPATH, IMPORTPATH-REST, IMPORTPATH-DOT, IMPORTPATHS, IMPORTPATHS-MORE, PATH-ITEM, PATH, PATH-REST, TYPE, TYPE-MARKS, TYPE-BASE, TYPE-BRACKETS, TYPES, TYPES-MORE, BLOCK, STATEMENTS, STATEMENT, AFTER-FOUR, AFTER-EXPR, LET, LET-TYPE, LITERAL, PARENS, BRACES, BRACES-INSIDE, FIELDS, FIELDS-MORE, FIELD, FIELD-NAME, EXPRS, EXPRS-MORE, FOUR, ELSE, ELSE-PART, ELSE-IF, ARMS, ARM, ARM-BODY, ARM-NEXT, ARM-COMMA, GUARD, PATTERN, VARIANT, VARIANT-NAMES, NAMES, NAMES-MORE, EXPR, RETURNED, ASSIGNED, BINARY, OR-MORE, AND, AND-MORE, COMPARE, COMPARE-MORE, SUM, SUM-MORE, PRODUCT, PRODUCT-MORE, OPERAND, POSTFIX, AFTER-PATH}
+use Rattle.grammar.specs.Words.{name, underscore, f-quote, '=>', '&&', '||', '->', open-brace, close-brace, open-paren, close-paren, open-bracket, close-bracket, ':', semicolon, comma, dot, '=', '?', '!', '-', 'const', 'else', 'for', 'fn', 'if', 'import', 'in', 'let', 'match', 'test', 'while', names, path-items, literals, assign-signs, compare-signs, sum-signs, product-signs, return-words, filter-words, four-words}
+use Rattle.grammar.specs.Grammar.{plain, has-value, opens-bracket, closes-bracket, is-prefix, is-head, is-else-if, same, body, Symbol, token, phrase, unless, note, left-side, text, Rule, ite}
+use Rattle.grammar.specs.Kinds.{records, no-records, TREE, DECLARATIONS, DECLARATION, PARAMS, RESULT, TYPED-NAMES, TYPED-NAMES-MORE, TYPED-NAME, NAME, IMPORT, IMPORTED, IMPORTPATH, IMPORTPATH-REST, IMPORTPATH-DOT, IMPORTPATHS, IMPORTPATHS-MORE, PATH-ITEM, PATH, PATH-REST, TYPE, TYPE-MARKS, TYPE-BASE, TYPE-BRACKETS, TYPES, TYPES-MORE, BLOCK, STATEMENTS, STATEMENT, AFTER-FOUR, AFTER-EXPR, LET, LET-TYPE, LITERAL, F-STRING, HOLE, PARENS, BRACES, BRACES-INSIDE, FIELDS, FIELDS-MORE, FIELD, FIELD-NAME, EXPRS, EXPRS-MORE, FOUR, ELSE, ELSE-PART, ELSE-IF, ARMS, ARM, ARM-BODY, ARM-NEXT, ARM-COMMA, GUARD, PATTERN, VARIANT, VARIANT-NAMES, NAMES, NAMES-MORE, EXPR, RETURNED, ASSIGNED, BINARY, OR-MORE, AND, AND-MORE, COMPARE, COMPARE-MORE, SUM, SUM-MORE, PRODUCT, PRODUCT-MORE, OPERAND, POSTFIX, AFTER-PATH}
 
 -- A word; one of several words; a word that opens or closes a bracket; a prefix; a head's word; a literal.
 abbrev pub word : ℕ → Symbol
@@ -167,6 +167,7 @@ exprs r =
     OPERAND r ⟶ (prefix ('!' ∷ []) ∷ a (OPERAND r) ∷ row 21 ∷ [])
     ∣ (prefix ('-' ∷ []) ∷ a (OPERAND r) ∷ row 22 ∷ [])
     ∣ (a LITERAL ∷ a (POSTFIX r) ∷ [])
+    ∣ (a F-STRING ∷ a (POSTFIX r) ∷ [])
     ∣ (a PATH ∷ a (AFTER-PATH r) ∷ [])
     ∣ (a PARENS ∷ a (POSTFIX r) ∷ [])
     ∣ (a FOUR ∷ a (POSTFIX r) ∷ [])
@@ -185,6 +186,8 @@ exprs r =
 unfoldable pub atoms : List Rule
 atoms =
     LITERAL ⟶ (literal literals ∷ row literal-row ∷ []) ∷
+    F-STRING ⟶ (word f-quote ∷ text HOLE ∷ row 46 ∷ []) ∷
+    HOLE ⟶ (opens open-brace ∷ a (EXPR records) ∷ closes close-brace ∷ text HOLE ∷ []) ∷
     PARENS ⟶ (opens open-paren ∷ a (EXPR records) ∷ closes close-paren ∷ []) ∷
     BRACES ⟶ (opens open-brace ∷ a BRACES-INSIDE ∷ []) ∷
     BRACES-INSIDE ⟶ (a FIELD ∷ a FIELDS-MORE ∷ closes close-brace ∷ row 36 ∷ [])
@@ -231,4 +234,4 @@ rest-kinds =
     TYPE-MARKS ∷ TYPE-BRACKETS ∷ TYPES ∷ TYPES-MORE ∷ STATEMENTS ∷ STATEMENT ∷ AFTER-FOUR ∷ AFTER-EXPR ∷ LET-TYPE ∷
     RETURNED records ∷ ASSIGNED records ∷ OR-MORE records ∷ AND-MORE records ∷ COMPARE-MORE records ∷ SUM-MORE records ∷ PRODUCT-MORE records ∷ POSTFIX records ∷ AFTER-PATH records ∷
     RETURNED no-records ∷ ASSIGNED no-records ∷ OR-MORE no-records ∷ AND-MORE no-records ∷ COMPARE-MORE no-records ∷ SUM-MORE no-records ∷ PRODUCT-MORE no-records ∷ POSTFIX no-records ∷ AFTER-PATH no-records ∷
-    BRACES-INSIDE ∷ FIELDS ∷ FIELDS-MORE ∷ EXPRS ∷ EXPRS-MORE ∷ ELSE ∷ ELSE-PART ∷ ARM-BODY ∷ ARM-NEXT ∷ ARM-COMMA ∷ GUARD ∷ VARIANT-NAMES ∷ NAMES ∷ NAMES-MORE ∷ []
+    HOLE ∷ BRACES-INSIDE ∷ FIELDS ∷ FIELDS-MORE ∷ EXPRS ∷ EXPRS-MORE ∷ ELSE ∷ ELSE-PART ∷ ARM-BODY ∷ ARM-NEXT ∷ ARM-COMMA ∷ GUARD ∷ VARIANT-NAMES ∷ NAMES ∷ NAMES-MORE ∷ []

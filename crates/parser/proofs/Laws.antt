@@ -4,6 +4,7 @@ use Prim.Native.Nat.{ℕ, _+_, _<_, _≤_}
 use mathlib.Core.Bool.{Bool, true, false}
 use mathlib.Core.List.{List}
 use lib.ListN.{length}
+use native.Mathlib.Omega.{arith}
 use borrow.Author.Tests.{lt-ltb, le-ltb, eq-eqb, ne-eqb}
 use Rattle.chars.specs.Chars.{pick}
 use Rattle.tokens.specs.declared.Cursor.{Cursor}
@@ -15,7 +16,7 @@ use Rattle.tokens.specs.Tokens.{stepAt}
 use Rattle.parser.specs.declared.Here.{Here}
 use Rattle.parser.specs.declared.Read.{Read}
 use Rattle.parser.specs.declared.Read.the-variants as read
-use Rattle.parser.specs.Places.{upTo, over, wrong, nowhereOf, hereOf, hereAt, refusalAt, unusedAt, unused, passed, past, listNode, expected, under, opening, closing}
+use Rattle.parser.specs.Places.{upTo, over, quoted, wrong, nowhereOf, hereOf, hereAt, refusalAt, unusedAt, unused, passed, past, listNode, expected, under, opening, closing}
 
 first : {A : Type 0} {t : Bool} {a x : A} (b : A) → t ≡ true → x ≡ a → x ≡ pick t a b
 first b h g = rw h g
@@ -36,8 +37,11 @@ module _ (len place rows : ℕ) {step : Step} {r : Here} where
   pub nowhere-end : {f : Refusal} → step ≡ Refused f → f .number ≡ 11 → r ≡ over len place rows → r ≡ nowhereOf len place rows step
   nowhere-end e n h = rw e (first _ (eq-eqb _ _ n) h)
 
-  pub nowhere-wrong : {f : Refusal} → step ≡ Refused f → (f .number ≡ 11 → ⊥) → r ≡ wrong len place rows f → r ≡ nowhereOf len place rows step
-  nowhere-wrong e n h = rw e (second _ (ne-eqb _ _ n) h)
+  pub nowhere-quote : {f : Refusal} → step ≡ Refused f → f .number ≡ 5 → r ≡ quoted place rows f → r ≡ nowhereOf len place rows step
+  nowhere-quote {f} e n h = rw e (second _ (ne-eqb (f .number) 11 (λ q. absurd (omega (arith, q, n)))) (first _ (eq-eqb _ _ n) h))
+
+  pub nowhere-wrong : {f : Refusal} → step ≡ Refused f → (f .number ≡ 5 → ⊥) → (f .number ≡ 11 → ⊥) → r ≡ wrong len place rows f → r ≡ nowhereOf len place rows step
+  nowhere-wrong e m n h = rw e (second _ (ne-eqb _ _ n) (second _ (ne-eqb _ _ m) h))
 
 module _ (s : List ℕ) (place rows : ℕ) {step : Step} (at : step ≡ stepAt s place) {r : Here} where
   pub here-nowhere : {f : Refusal} → step ≡ Refused f → r ≡ nowhereOf (length s) place rows step → r ≡ hereAt s place rows

@@ -3,6 +3,8 @@ pub mod Standing
 pub mod Tables
 pub mod Tallies
 pub mod Going
+pub mod Texts
+pub mod Pieces
 pub mod Picks
 pub mod Steps
 pub mod Sides

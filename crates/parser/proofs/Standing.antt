@@ -12,6 +12,8 @@ use Rattle.tokens.specs.declared.Refusal.{Refusal}
 use Rattle.tokens.specs.declared.Step.{Step}
 use Rattle.tokens.specs.declared.Step.the-variants.{Taken, Refused}
 use Rattle.tokens.specs.Tokens.{stepAt}
+use Rattle.numbers.specs.Digits.{choose}
+use Rattle.values.specs.Literals.{literalOf}
 use Rattle.grammar.specs.Grammar.{Token, Look, found, over, wrong, one-of}
 use Rattle.grammar.specs.Readings.{word-of, peek}
 use Rattle.grammar.specs.Refusals.{Why, said, said-at, said-text, lacks}
@@ -19,9 +21,9 @@ use Rattle.grammar.specs.Refusals as refusals
 use Rattle.grammar.proofs.Bools.{and-l, and-r, or-l, or-cases, F→eq}
 use Rattle.grammar.proofs.Frame.{no-text}
 use Rattle.answers.specs.Source.{source, lookOf, lookAfter}
-use Rattle.answers.proofs.Ahead.{Steps, steps-token, steps-over, steps-wrong, step-goes}
+use Rattle.answers.proofs.Ahead.{Steps, steps-token, steps-over, steps-quote, steps-wrong, step-goes}
 use Rattle.parser.specs.declared.Here.{Here}
-use Rattle.parser.specs.Places.{bumped, hereOf, hereAt, passed, later, unusedAt, over as over-here, wrong as wrong-here}
+use Rattle.parser.specs.Places.{bumped, hereOf, hereAt, passed, later, unusedAt, quoted, over as over-here, wrong as wrong-here}
 use Rattle.parser.specs.Going.{language, tokenOf, Stands}
 
 abbrev plainly : Refusal → refusals.Refusal
@@ -38,13 +40,21 @@ data Sees (s : List ℕ) (h : Here) : Look ℕ → Type 0 where
   sees-wrong : h .word ≡ 99 → h .next ≡ length s + 1 → Sees s h (wrong (h .code) (h .start) (h .end))
 
 sees-of : (s : List ℕ) (place rows : ℕ) (k : Step) → Steps s place k → Sees s (hereOf s place rows k) (lookOf s k)
+unfolding literalOf choose
 sees-of s place rows (Taken t w next) (steps-token h m p v) = sees-token h m p v
 sees-of s place rows (Refused r) steps-over = sees-over refl refl refl refl
-sees-of s place rows (Refused r) (steps-wrong h) = go (eqb (r .number) 11) (elim h [ inl q ↦ ap (λ (x : ℕ). eqb x 11) q | inr q ↦ ap (λ (x : ℕ). eqb x 11) q ])
+sees-of s place rows (Refused r) (steps-quote q l m) = go (eqb (r .number) 11) (eqb (r .number) 5) (ap (λ (x : ℕ). eqb x 11) q) (ap (λ (x : ℕ). eqb x 5) q)
   where
-    go : (b : Bool) → b ≡ false → Sees s (pick b (over-here (length s) place rows) (wrong-here (length s) place rows r)) (lookAfter b r)
-    go true e = sees-over refl refl refl refl
-    go false e = sees-wrong refl refl
+    go : (b c : Bool) → b ≡ false → c ≡ true → Sees s (pick b (over-here (length s) place rows) (pick c (quoted place rows r) (wrong-here (length s) place rows r))) (lookAfter b c r)
+    go true c e f = sees-over refl refl refl refl
+    go false true e f = sees-token l m (omega arith) (omega arith)
+    go false false e f = let z : T false = subst T (sym f) tt in absurd z
+sees-of s place rows (Refused r) (steps-wrong q) = go (eqb (r .number) 11) (eqb (r .number) 5) (ap (λ (x : ℕ). eqb x 5) q)
+  where
+    go : (b c : Bool) → c ≡ false → Sees s (pick b (over-here (length s) place rows) (pick c (quoted place rows r) (wrong-here (length s) place rows r))) (lookAfter b c r)
+    go true c f = sees-over refl refl refl refl
+    go false true f = let z : T false = subst T f tt in absurd z
+    go false false f = sees-wrong refl refl
 
 sees-at : (s : List ℕ) (place rows : ℕ) → Sees s (hereAt s place rows) ((source s) .look place)
 unfolding hereAt
@@ -55,13 +65,14 @@ here-any : (P : Here → Type 0) (s : List ℕ) (place rows : ℕ) → ((w c a e
 unfolding hereAt
 here-any P s place rows p = go (stepAt s place)
   where
-    more : (b : Bool) (r : Refusal) → P (pick b (over-here (length s) place rows) (wrong-here (length s) place rows r))
-    more true r = p 0 0 (length s) (length s) (length s + 1)
-    more false r = p 99 (r .number) (r .start) (r .end) (length s + 1)
+    more : (b c : Bool) (r : Refusal) → P (pick b (over-here (length s) place rows) (pick c (quoted place rows r) (wrong-here (length s) place rows r)))
+    more true c r = p 0 0 (length s) (length s) (length s + 1)
+    more false true r = p 90 0 (r .start) (r .end) (r .end)
+    more false false r = p 99 (r .number) (r .start) (r .end) (length s + 1)
 
     go : (k : Step) → P (hereOf s place rows k)
     go (Taken t w next) = p w (t .code) (t .start) (t .end) (next .at)
-    go (Refused r) = more (eqb (r .number) 11) r
+    go (Refused r) = more (eqb (r .number) 11) (eqb (r .number) 5) r
 
 pub here-place : (s : List ℕ) (place rows : ℕ) → (hereAt s place rows) .place ≡ place
 here-place s place rows = here-any (λ h. h .place ≡ place) s place rows (λ w c a e n. refl)
@@ -155,28 +166,24 @@ solid-word v w t m =
     let k = and-r (no-text w) (not (one-of 0 w) && not (one-of 99 w)) t in
     (λ e. T-not (one-of 0 w) (and-l (not (one-of 0 w)) (not (one-of 99 w)) k) (subst (λ (x : ℕ). T (one-of x w)) e m), λ e. T-not (one-of 99 w) (and-r (not (one-of 0 w)) (not (one-of 99 w)) k) (subst (λ (x : ℕ). T (one-of x w)) e m))
 
+-- at a place further on
+pub stands-at : {s : List ℕ} {h h′ : Here} {j n : ℕ} → Stands s h → j ≤ length s → n ≤ 4 * j + 4 → h′ ≡ hereAt s j n → Stands s h′ × (h′ .place ≡ j) × (j < h′ .next) × (h′ .rows ≡ n)
+stands-at {s} {h} {h′} {j} {n} g b f e =
+    let p : h′ .place ≡ j = ap (λ (x : Here). x .place) e ∙ here-place s j n in
+    let r : h′ .rows ≡ n = ap (λ (x : Here). x .rows) e ∙ here-rows s j n in
+    let l = next-after ((source s) .look j) (sees-at s j n) in
+    let o : h′ .next ≡ (hereAt s j n) .next = ap (λ (x : Here). x .next) e in
+    let z : j < h′ .next = omega arith in
+    (record { short = g .short; seen = e ∙ ap (λ (x : ℕ). hereAt s x n) (sym p) ∙ ap (hereAt s (h′ .place)) (sym r); placed = omega (arith, b, p); few = omega (arith, f, r, z) }, p, z, r)
+  where
+    next-after : (k : Look ℕ) → Sees s (hereAt s j n) k → j < (hereAt s j n) .next
+    next-after (found x i) (sees-token p q′ c d) = let e = here-place s j n in omega arith
+    next-after over (sees-over w x y z) = omega arith
+    next-after (wrong m x y) (sees-wrong w z) = omega arith
+
 -- behind a token
 pub goes-past : {s : List ℕ} {h h′ : Here} → Stands s h → h .word ≢ 0 → h .word ≢ 99 → h′ ≡ passed s h → Stands s h′ × (h′ .place ≡ h .next) × (h .next < h′ .next) × (h′ .rows ≡ h .rows)
-goes-past {s} {h} {h′} g a b e =
-    let k = is-token g a b in
-    let p : h′ .place ≡ h .next = ap (λ (x : Here). x .place) e ∙ here-place s (h .next) (h .rows) in
-    let r : h′ .rows ≡ h .rows = ap (λ (x : Here). x .rows) e ∙ here-rows s (h .next) (h .rows) in
-    let l = next-after (h .next) (h .rows) (k .2) in
-    let n : h′ .next ≡ (passed s h) .next = ap (λ (x : Here). x .next) e in
-    let f = g .few in
-    let z : h .next < h′ .next = omega arith in
-    (record { short = g .short; seen = e ∙ ap (λ (x : ℕ). hereAt s x (h .rows)) (sym p) ∙ ap (hereAt s (h′ .place)) (sym r); placed = omega (arith, k .2, p); few = omega (arith, f, r, z) }, p, z, r)
-  where
-    next-after : (i n : ℕ) → i ≤ length s → i < (hereAt s i n) .next
-    next-after i n q = go ((source s) .look i) (sees-at s i n)
-      where
-        same-place : (hereAt s i n) .place ≡ i
-        same-place = here-place s i n
-
-        go : (k : Look ℕ) → Sees s (hereAt s i n) k → i < (hereAt s i n) .next
-        go (found x j) (sees-token p q′ c d) = let e = same-place in omega arith
-        go over (sees-over w x y z) = omega arith
-        go (wrong m x y) (sees-wrong w z) = omega arith
+goes-past {s} {h} {h′} g a b e = let f = g .few in stands-at g ((is-token g a b) .2) (omega arith) e
 
 -- with one row more
 pub more-rows : {s : List ℕ} {h h′ : Here} → Stands s h → h′ ≡ later h → h′ .rows ≤ 4 * h′ .next → Stands s h′
@@ -196,13 +203,14 @@ more-rows {s} {h} {h′} g e f =
     with-rows : Here → ℕ → Here
     with-rows h n = record { word = h .word; code = h .code; place = h .place; start = h .start; end = h .end; next = h .next; rows = n }
 
-    more : (i n m : ℕ) (b : Bool) (r : Refusal) → with-rows (pick b (over-here (length s) i n) (wrong-here (length s) i n r)) m ≡ pick b (over-here (length s) i m) (wrong-here (length s) i m r)
-    more i n m true r = refl
-    more i n m false r = refl
+    more : (i n m : ℕ) (b c : Bool) (r : Refusal) → with-rows (pick b (over-here (length s) i n) (pick c (quoted i n r) (wrong-here (length s) i n r))) m ≡ pick b (over-here (length s) i m) (pick c (quoted i m r) (wrong-here (length s) i m r))
+    more i n m true c r = refl
+    more i n m false true r = refl
+    more i n m false false r = refl
 
     go : (i n m : ℕ) (k : Step) → with-rows (hereOf s i n k) m ≡ hereOf s i m k
     go i n m (Taken t w next) = refl
-    go i n m (Refused r) = more i n m (eqb (r .number) 11) r
+    go i n m (Refused r) = more i n m (eqb (r .number) 11) (eqb (r .number) 5) r
 
 -- behind one of these words
 pub past-word : {s : List ℕ} {h h′ : Here} (w : List ℕ) → Stands s h → T (solid w) → T (one-of (h .word) w) → h′ ≡ passed s h → Stands s h′ × (h .next < h′ .next) × (h′ .rows ≡ h .rows)

@@ -3,12 +3,18 @@ use mathlib.Core.List.{List}
 use Prim.Native.Nat.{ℕ, _+_}
 use lib.Dec.{eqb, ltb}
 use lib.ListN.{length}
+use lib.Seq.{slice}
 use Rattle.chars.specs.Chars.{pick}
 use Rattle.tokens.specs.declared.Refusal.{Refusal}
 use Rattle.tokens.specs.declared.Step.{Step}
 use Rattle.tokens.specs.declared.Step.the-variants.{Taken, Refused}
 use Rattle.tokens.specs.Tokens.{stepAt}
 use Rattle.rows.specs.declared.Row.{Row}
+use Rattle.rows.specs.Rows.{putRow}
+use Rattle.strings.specs.declared.Size.{Size}
+use Rattle.texts.specs.declared.Part.{Part}
+use Rattle.texts.specs.declared.Part.the-variants.{Before, Ends, None}
+use Rattle.texts.specs.Texts.{textOf}
 use Rattle.parser.specs.declared.Here.{Here}
 use Rattle.parser.specs.declared.Node.{Node}
 use Rattle.parser.specs.declared.Read.{Read}
@@ -32,13 +38,17 @@ over len place rows = record { word = 0; code = 0; place = place; start = len; e
 abbrev pub wrong : ℕ → ℕ → ℕ → Refusal → Here
 wrong len place rows r = record { word = 99; code = r .number; place = place; start = r .start; end = r .end; next = len + 1; rows = rows }
 
+-- `f"`, the lexer's refusal 5, is a token (C-11)
+abbrev pub quoted : ℕ → ℕ → Refusal → Here
+quoted place rows r = record { word = 90; code = 0; place = place; start = r .start; end = r .end; next = r .end; rows = rows }
+
 abbrev pub nowhereOf : ℕ → ℕ → ℕ → Step → Here
 nowhereOf len place rows (Taken t w next) = over len place rows
-nowhereOf len place rows (Refused r) = pick (eqb (r .number) 11) (over len place rows) (wrong len place rows r)
+nowhereOf len place rows (Refused r) = pick (eqb (r .number) 11) (over len place rows) (pick (eqb (r .number) 5) (quoted place rows r) (wrong len place rows r))
 
 abbrev pub hereOf : List ℕ → ℕ → ℕ → Step → Here
 hereOf s place rows (Taken t w next) = record { word = w; code = t .code; place = place; start = t .start; end = t .end; next = next .at; rows = rows }
-hereOf s place rows (Refused r) = pick (eqb (r .number) 11) (over (length s) place rows) (wrong (length s) place rows r)
+hereOf s place rows (Refused r) = pick (eqb (r .number) 11) (over (length s) place rows) (pick (eqb (r .number) 5) (quoted place rows r) (wrong (length s) place rows r))
 
 unfoldable pub hereAt : List ℕ → ℕ → ℕ → Here
 hereAt s place rows = hereOf s place rows (stepAt s place)
@@ -95,3 +105,29 @@ opening s h w n = pick (eqb (h .word) w) (under s h n) (unused h)
 -- past the bracket that closes a list
 unfoldable pub closing : List ℕ → Here → ℕ → ℕ → ℕ → Read
 closing s h w a c = pick (eqb (h .word) w) (Done (listNode h a c) (passed s h)) (unused h)
+
+-- C-11: past a token and the piece of text behind it, up to e; then place j is looked at. Its node: its word, its span, and 1 if
+-- it has a row.
+abbrev pub partRow : ℕ → ℕ → ℕ → Row
+partRow a e n = record { kind = 47; start = a; end = e; children = 0; value = n; detail = 0 }
+
+abbrev pub partNode : ℕ → ℕ → ℕ → ℕ → Node
+partNode w a e n = record { kind = w; start = a; end = e; children = n }
+
+unfoldable pub pieceRead : List ℕ → Here → ℕ → ℕ → ℕ → Size → Read
+pieceRead s h w e j (Size.Is n) = pick (eqb n 0) (Done (partNode w (h .next) e 0) (hereAt s j (h .rows))) (Done (partNode w (h .next) e 1) (hereAt s j (bumped (h .rows))))
+pieceRead s h w e j Size.None = read.Refused (refusalAt 7 (h .next) e)
+
+unfoldable pub pieceTable : List ℕ → Here → ℕ → Size → List ℕ
+pieceTable t h e (Size.Is n) = pick (eqb n 0) t (putRow t (h .rows) (partRow (h .next) e n))
+pieceTable t h e Size.None = t
+
+unfoldable pub partRead : List ℕ → Here → Part → Read
+partRead s h (Before e) = pieceRead s h 91 e e (textOf (slice (h .next) e s))
+partRead s h (Ends e) = pieceRead s h 92 e (e + 1) (textOf (slice (h .next) e s))
+partRead s h None = read.Refused (refusalAt 11 (length s) (length s))
+
+unfoldable pub partTable : List ℕ → List ℕ → Here → Part → List ℕ
+partTable s t h (Before e) = pieceTable t h e (textOf (slice (h .next) e s))
+partTable s t h (Ends e) = pieceTable t h e (textOf (slice (h .next) e s))
+partTable s t h None = t

@@ -2,13 +2,29 @@
 ghost use mathlib.Core.Path.{_≡_};
 ghost use Rattle.rows.specs.Rows.{putRow};
 ghost use Prim.Native.Nat.{_≤_};
-ghost use Rattle.parser.specs.Places.{bumped, capped, nowhereOf, hereAt, passed, refusalAt, unused, past as pastToken, under, expected, opening, closing, later, nodeOf, plainRow};
+ghost use lib.ListN.{length};
+ghost use lib.Seq.{slice};
+ghost use Rattle.texts.specs.Parts.{partAt};
+ghost use Rattle.texts.specs.Texts.{textOf};
+ghost use Rattle.parser.specs.Places.{bumped, capped, nowhereOf, hereAt, passed, refusalAt, unused, past as pastToken, under, expected, opening, closing, later, nodeOf, plainRow, pieceRead, pieceTable, partRead, partTable};
 ghost use Rattle.parser.specs.Counted.{opened, signed, plain, headed, chained, unchained};
 ghost use Rattle.parser.specs.declared.Read.the-variants.{Done, Refused};
 use rows::Row;
+use strings::Size;
+use texts::Part;
 use tokens::Cursor;
 use tokens::Refusal;
 use tokens::Step;
+
+// Words that the lexer hasn't: `f"`, and a piece of an f-string's text before a hole and before its quote.
+pub const F_QUOTE: u64 = 90;
+
+pub const TEXT_THEN_HOLE: u64 = 91;
+
+pub const LAST_TEXT: u64 = 92;
+
+// The kind of a piece's row.
+const TEXT_PART: u64 = 47;
 
 // Where a reader stands: a place of the source and the token from there on; the place behind it; the rows written so far.
 // The word is 0 at the end of the source, and 99 where no token is: then `code` is the refusal's number.
@@ -170,6 +186,17 @@ fn nowhere(step: Step, length: usize, place: usize, rows: usize) -> Here
     ensures { λ r. ⌜ r ≡ nowhereOf length place rows step ⌝ }
 {
     if let Step::Refused(r) = step {
+        if r.number == 5 {
+            return Here {
+                word: F_QUOTE,
+                code: 0,
+                place,
+                start: r.start,
+                end: r.end,
+                next: r.end,
+                rows,
+            };
+        }
         if r.number != 11 {
             return Here {
                 word: 99,
@@ -317,4 +344,56 @@ pub fn finish(table: &mut [u64], row: Row, here: Here) -> Read
             rows: row_more(here.rows),
         },
     )
+}
+
+// The piece of text behind a token up to `end`: its row if it has a byte, and what stands at `next`.
+fn text_row(s: &[u8], table: &mut [u64], here: Here, end: usize, next: usize, word: u64) -> Read
+    requires { ⌜ (here .next ≤ end) × (end ≤ length (now s)) ⌝ }
+    ensures { λ r. ⌜ (r ≡ pieceRead (now (s .entry)) here word end next (textOf (slice (here .next) end (now (s .entry))))) × (now (table .exit) ≡ pieceTable (now (table .entry)) here end (textOf (slice (here .next) end (now (s .entry))))) ⌝ }
+{
+    let start = here.next;
+    let Size::Is(count) = texts::text(&s[start..end]) else {
+        return refuse(7, start, end);
+    };
+    if count == 0 {
+        return Read::Done(
+            Node {
+                kind: word,
+                start,
+                end,
+                children: 0,
+            },
+            look(s, next, here.rows),
+        );
+    }
+    let part = Row {
+        kind: TEXT_PART,
+        start,
+        end,
+        children: 0,
+        value: count as u64,
+        detail: 0,
+    };
+    rows::put(table, here.rows, part);
+    Read::Done(
+        Node {
+            kind: word,
+            start,
+            end,
+            children: 1,
+        },
+        look(s, next, row_more(here.rows)),
+    )
+}
+
+// Goes past a token and the piece of text behind it, before a hole or before the quote.
+pub fn piece(s: &[u8], table: &mut [u64], here: Here) -> Read
+    ensures { λ r. ⌜ (r ≡ partRead (now (s .entry)) here (partAt (now (s .entry)) (here .next))) × (now (table .exit) ≡ partTable (now (s .entry)) (now (table .entry)) here (partAt (now (s .entry)) (here .next))) ⌝ }
+{
+    let part = texts::f_string_part(s, here.next);
+    match part {
+        Part::Before(end) => text_row(s, table, here, end, end, TEXT_THEN_HOLE),
+        Part::Ends(end) => text_row(s, table, here, end, end + 1, LAST_TEXT),
+        Part::None => refuse(11, s.len(), s.len()),
+    }
 }

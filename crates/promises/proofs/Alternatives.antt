@@ -7,10 +7,10 @@ use mathlib.Core.Option.{none, some}
 use mathlib.Core.Logic.{_⊎_, inl, inr, _≢_}
 use Prim.Native.Nat.{ℕ}
 use lib.Dec.{T, eqb, eqb→eq}
-use Rattle.grammar.specs.Words.{name, underscore, '=>', '&&', '||', '->', open-brace, close-brace, open-paren, close-paren, open-bracket, close-bracket, ':', semicolon, comma, dot, '=', '?', '!', '-', 'const', 'else', 'for', 'fn', 'if', 'import', 'in', 'let', 'match', 'pkg', 'dep', 'super', 'std', 'test', 'while', names, path-items, literals, assign-signs, compare-signs, sum-signs, product-signs, return-words, filter-words, four-words}
+use Rattle.grammar.specs.Words.{name, underscore, f-quote, '=>', '&&', '||', '->', open-brace, close-brace, open-paren, close-paren, open-bracket, close-bracket, ':', semicolon, comma, dot, '=', '?', '!', '-', 'const', 'else', 'for', 'fn', 'if', 'import', 'in', 'let', 'match', 'pkg', 'dep', 'super', 'std', 'test', 'while', names, path-items, literals, assign-signs, compare-signs, sum-signs, product-signs, return-words, filter-words, four-words}
 use Rattle.grammar.specs.Grammar.{is-else-if, Symbol, token, unless, left-side, found, one as one-seen, pair, one-of}
 use Rattle.grammar.specs.Table.{word, one, opens, closes, prefix, head, literal, a, behind, nothing, row, literal-row, part, rest-kinds}
-use Rattle.grammar.specs.Kinds.{records, no-records, TREE, DECLARATIONS, DECLARATION, PARAMS, RESULT, TYPED-NAMES, TYPED-NAMES-MORE, TYPED-NAME, NAME, IMPORT, IMPORTED, IMPORTPATH, IMPORTPATH-REST, IMPORTPATH-DOT, IMPORTPATHS, IMPORTPATHS-MORE, PATH-ITEM, PATH, PATH-REST, TYPE, TYPE-MARKS, TYPE-BASE, TYPE-BRACKETS, TYPES, TYPES-MORE, BLOCK, STATEMENTS, STATEMENT, AFTER-FOUR, AFTER-EXPR, LET, LET-TYPE, LITERAL, PARENS, BRACES, BRACES-INSIDE, FIELDS, FIELDS-MORE, FIELD, FIELD-NAME, EXPRS, EXPRS-MORE, FOUR, ELSE, ELSE-PART, ELSE-IF, ARMS, ARM, ARM-BODY, ARM-NEXT, ARM-COMMA, GUARD, PATTERN, VARIANT, VARIANT-NAMES, NAMES, NAMES-MORE, EXPR, RETURNED, ASSIGNED, BINARY, OR-MORE, AND, AND-MORE, COMPARE, COMPARE-MORE, SUM, SUM-MORE, PRODUCT, PRODUCT-MORE, OPERAND, POSTFIX, AFTER-PATH}
+use Rattle.grammar.specs.Kinds.{records, no-records, TREE, DECLARATIONS, DECLARATION, PARAMS, RESULT, TYPED-NAMES, TYPED-NAMES-MORE, TYPED-NAME, NAME, IMPORT, IMPORTED, IMPORTPATH, IMPORTPATH-REST, IMPORTPATH-DOT, IMPORTPATHS, IMPORTPATHS-MORE, PATH-ITEM, PATH, PATH-REST, TYPE, TYPE-MARKS, TYPE-BASE, TYPE-BRACKETS, TYPES, TYPES-MORE, BLOCK, STATEMENTS, STATEMENT, AFTER-FOUR, AFTER-EXPR, LET, LET-TYPE, LITERAL, F-STRING, PARENS, BRACES, BRACES-INSIDE, FIELDS, FIELDS-MORE, FIELD, FIELD-NAME, EXPRS, EXPRS-MORE, FOUR, ELSE, ELSE-PART, ELSE-IF, ARMS, ARM, ARM-BODY, ARM-NEXT, ARM-COMMA, GUARD, PATTERN, VARIANT, VARIANT-NAMES, NAMES, NAMES-MORE, EXPR, RETURNED, ASSIGNED, BINARY, OR-MORE, AND, AND-MORE, COMPARE, COMPARE-MORE, SUM, SUM-MORE, PRODUCT, PRODUCT-MORE, OPERAND, POSTFIX, AFTER-PATH}
 use Rattle.grammar.specs.Language.{roto}
 use Rattle.grammar.specs.Choice.{flag, chosen}
 use Rattle.grammar.specs.Readings.{peek}
@@ -27,14 +27,14 @@ use Rattle.promises.specs.Firsts.{operandFirsts, exprFirsts, typeFirsts,
 
 -- what an expr begins with that begins with none of the four words; with no `{`
 abbrev pub plainFirsts : List ℕ
-plainFirsts = return-words ++ ('!' ∷ '-' ∷ open-paren ∷ open-brace ∷ (literals ++ path-items))
+plainFirsts = return-words ++ ('!' ∷ '-' ∷ open-paren ∷ open-brace ∷ f-quote ∷ (literals ++ path-items))
 
 abbrev pub braceless : List ℕ
-braceless = return-words ++ ('!' ∷ '-' ∷ open-paren ∷ (literals ++ (path-items ++ four-words)))
+braceless = return-words ++ ('!' ∷ '-' ∷ open-paren ∷ f-quote ∷ (literals ++ (path-items ++ four-words)))
 
 -- what stands behind the `{` of a block, but for a name
 abbrev pub insideFirsts : List ℕ
-insideFirsts = close-brace ∷ 'import' ∷ 'let' ∷ (return-words ++ ('!' ∷ '-' ∷ open-paren ∷ open-brace ∷ 'pkg' ∷ 'dep' ∷ 'super' ∷ 'std' ∷ (literals ++ four-words)))
+insideFirsts = close-brace ∷ 'import' ∷ 'let' ∷ (return-words ++ ('!' ∷ '-' ∷ open-paren ∷ open-brace ∷ f-quote ∷ 'pkg' ∷ 'dep' ∷ 'super' ∷ 'std' ∷ (literals ++ four-words)))
 
 abbrev covers : List ℕ → List ℕ → Bool
 covers [] v = true
@@ -981,6 +981,14 @@ pub operand-literal-on : (b : Bool) → On (OPERAND b) (some (operand-literal b)
 unfolding roto picks-on
 operand-literal-on true = record { computed = tt }
 operand-literal-on false = record { computed = tt }
+
+abbrev pub operand-string : Bool → List Symbol
+operand-string b = a F-STRING ∷ a (POSTFIX b) ∷ []
+
+pub operand-string-on : (b : Bool) → On (OPERAND b) (some (operand-string b)) (f-quote ∷ [])
+unfolding roto picks-on
+operand-string-on true = record { computed = tt }
+operand-string-on false = record { computed = tt }
 
 abbrev pub operand-path : Bool → List Symbol
 operand-path b = a PATH ∷ a (AFTER-PATH b) ∷ []

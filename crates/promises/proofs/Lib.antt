@@ -12,6 +12,7 @@ pub mod Declarations
 pub mod Wholes
 pub mod Exprs
 pub mod Operands
+pub mod Spelled
 pub mod Heads
 pub mod Arms
 pub mod Blocks

@@ -64,24 +64,27 @@ module _ (s : List ℕ) (l : Limits) (b : Bool) (h : Here) (t : List ℕ) (g : S
       go (Done m z) x = record { at-counts = counts l; alike = alike-counts l; going = inl (reads-one (begins-on p g o) q refl x) }
       go (Refused e) x = refuses-in (begins-on p g o) refl x
 
-  pub atom-unused : {r : Read} → h .word ≢ 52 → h .word ≢ 53 → h .word ≢ 42 → h .word ≢ 40 → (T (one-of (h .word) literals) → ⊥) → (T (one-of (h .word) path-items) → ⊥) → (T (one-of (h .word) four-words) → ⊥) → r ≡ unused h → Atom s h t l b r t
-  atom-unused bang minus paren brace lit path four e = partly-stops e (stopped-of (none-fits {j = 1} (operand-off b) g none-of-them e) e)
+  pub atom-unused : {r : Read} → h .word ≢ 52 → h .word ≢ 53 → h .word ≢ 42 → h .word ≢ 40 → h .word ≢ 90 → (T (one-of (h .word) literals) → ⊥) → (T (one-of (h .word) path-items) → ⊥) → (T (one-of (h .word) four-words) → ⊥) → r ≡ unused h → Atom s h t l b r t
+  atom-unused bang minus paren brace quote lit path four e = partly-stops e (stopped-of (none-fits {j = 1} (operand-off b) g none-of-them e) e)
     where
       x : ℕ
       x = h .word
 
       none-of-them : T (one-of x operandFirsts) → ⊥
-      none-of-them m = elim (of-two x (52 ∷ []) (53 ∷ 42 ∷ 40 ∷ (literals ++ (path-items ++ four-words))) m) [
+      none-of-them m = elim (of-two x (52 ∷ []) (53 ∷ 42 ∷ 40 ∷ 90 ∷ (literals ++ (path-items ++ four-words))) m) [
         | inl k ↦ bang (the-word k)
-        | inr m₁ ↦ elim (of-two x (53 ∷ []) (42 ∷ 40 ∷ (literals ++ (path-items ++ four-words))) m₁) [
+        | inr m₁ ↦ elim (of-two x (53 ∷ []) (42 ∷ 40 ∷ 90 ∷ (literals ++ (path-items ++ four-words))) m₁) [
           | inl k ↦ minus (the-word k)
-          | inr m₂ ↦ elim (of-two x (42 ∷ []) (40 ∷ (literals ++ (path-items ++ four-words))) m₂) [
+          | inr m₂ ↦ elim (of-two x (42 ∷ []) (40 ∷ 90 ∷ (literals ++ (path-items ++ four-words))) m₂) [
             | inl k ↦ paren (the-word k)
-            | inr m₃ ↦ elim (of-two x (40 ∷ []) (literals ++ (path-items ++ four-words)) m₃) [
+            | inr m₃ ↦ elim (of-two x (40 ∷ []) (90 ∷ (literals ++ (path-items ++ four-words))) m₃) [
               | inl k ↦ brace (the-word k)
-              | inr m₄ ↦ elim (of-two x literals (path-items ++ four-words) m₄) [
-                | inl k ↦ lit k
-                | inr m₅ ↦ elim (of-two x path-items four-words m₅) [ inl k ↦ path k | inr k ↦ four k ]
+              | inr mq ↦ elim (of-two x (90 ∷ []) (literals ++ (path-items ++ four-words)) mq) [
+                | inl k ↦ quote (the-word k)
+                | inr m₄ ↦ elim (of-two x literals (path-items ++ four-words) m₄) [
+                  | inl k ↦ lit k
+                  | inr m₅ ↦ elim (of-two x path-items four-words m₅) [ inl k ↦ path k | inr k ↦ four k ]
+                ]
               ]
             ]
           ]

@@ -7,7 +7,7 @@ use Prim.Native.Nat.{ℕ, _<_}
 use lib.Dec.{eqb}
 use Rattle.chars.specs.Chars.{pick}
 use Rattle.rows.specs.declared.Row.{Row}
-use Rattle.grammar.specs.Words.{open-brace, open-paren, '!', '-', dot, '?', 'import', 'let', 'const', 'fn', 'test', comma, '||', '&&', path-items, literals, four-words, compare-signs, sum-signs, product-signs, return-words, filter-words}
+use Rattle.grammar.specs.Words.{f-quote, open-brace, open-paren, '!', '-', dot, '?', 'import', 'let', 'const', 'fn', 'test', comma, '||', '&&', path-items, literals, four-words, compare-signs, sum-signs, product-signs, return-words, filter-words}
 use Rattle.grammar.specs.Grammar.{one-of}
 use Rattle.grammar.specs.Rows.{detail-for}
 use Rattle.parser.specs.declared.Here.{Here}
@@ -18,7 +18,7 @@ use Rattle.parser.specs.Places.{passed}
 
 -- what an operand, an expr, a type, a statement, a declaration can begin with
 abbrev pub operandFirsts : List ℕ
-operandFirsts = '!' ∷ '-' ∷ open-paren ∷ open-brace ∷ (literals ++ (path-items ++ four-words))
+operandFirsts = '!' ∷ '-' ∷ open-paren ∷ open-brace ∷ f-quote ∷ (literals ++ (path-items ++ four-words))
 
 abbrev pub exprFirsts : List ℕ
 exprFirsts = return-words ++ operandFirsts

@@ -12,14 +12,16 @@ ghost use Rattle.grammar.specs.Words.{names, path-items, literals, return-words
 ghost use Rattle.grammar.specs.Grammar.{one-of};
 ghost use Rattle.grammar.specs.Table.{a};
 ghost use Rattle.grammar.specs.Rows.{detail-for};
-ghost use Rattle.grammar.specs.Kinds.{DECLARATION, NAME, TYPED-NAMES, TYPED-NAME, IMPORT, IMPORTED, IMPORTPATH, PATH-ITEM, PATH, TYPE, TYPE-BASE, TYPES, BLOCK, STATEMENT, LET, LITERAL, PARENS, BRACES, FIELD, FIELD-NAME, EXPRS, FOUR, ARM, PATTERN, NAMES, EXPR, OPERAND};
+ghost use Rattle.grammar.specs.Kinds.{DECLARATION, NAME, TYPED-NAMES, TYPED-NAME, IMPORT, IMPORTED, IMPORTPATH, PATH-ITEM, PATH, TYPE, TYPE-BASE, TYPES, BLOCK, STATEMENT, LET, LITERAL, PARENS, BRACES, FIELD, FIELD-NAME, EXPRS, FOUR, ARM, PATTERN, NAMES, EXPR, OPERAND, F-STRING};
 ghost use Rattle.parser.specs.declared.Read.the-variants.{Done};
 ghost use Rattle.parser.specs.Places.{later, nodeOf, plainRow};
 ghost use Rattle.parser.specs.Counted.{counts};
 ghost use Rattle.parser.specs.Going.{Stands, Answers};
 ghost use Rattle.promises.specs.Firsts.{postfixSigns, closingOf, signWords, detailRow, returnRow, armEnd, childless, undotted, onward, few};
 ghost use Rattle.promises.specs.Promises.{the, Anyhow, Partly, itemRow, wrote, Closed, Listed, Typing, Guarded, Grouped, LEVEL, Atom, Behind, AnyBehind, Fielded, Headed, afterIf, afterWhile, afterFor, afterMatch, Tested, Elsed, linked, overRead, overTable, Matched, Armed, Bodied, Stated, Statement, Beyond, Finished};
+use parser::F_QUOTE;
 use parser::Here;
+use parser::LAST_TEXT;
 use parser::Limits;
 use parser::Node;
 use parser::Read;
@@ -29,6 +31,7 @@ use parser::expect;
 use parser::finish;
 use parser::look;
 use parser::open;
+use parser::piece;
 use parser::plain_row;
 use parser::refuse;
 use parser::take;
@@ -829,6 +832,9 @@ fn atom(s: &[u8], table: &mut [u64], here: Here, limits: Limits, records: bool) 
     if is_path_item(here.word) {
         return pathed(s, table, here, limits, records);
     }
+    if here.word == F_QUOTE {
+        return f_string(s, table, here, limits);
+    }
     if here.word == OPEN_PAREN {
         return parens(s, table, here, limits);
     }
@@ -866,6 +872,38 @@ fn literal(s: &[u8], table: &mut [u64], here: Here) -> Read
     };
     let next = take(s, here);
     finish(table, row, next)
+}
+
+// A string with expressions inside: text, then a hole with one expr, and so on to the quote.
+fn f_string(s: &[u8], table: &mut [u64], at: Here, limits: Limits) -> Read
+    requires { ⌜ (Stands (now s) at) × (at .word ≡ 90) ⌝ }
+    ensures { λ r. ⌜ Answers (the (now (s .entry)) (counts limits) F-STRING at (now (table .entry))) 1 r (now (table .exit)) ⌝ }
+{
+    let mut here = at;
+    let mut children: u64 = 0;
+    loop {
+        let r = piece(s, table, here);
+        let Read::Done(text, next) = r else {
+            return r;
+        };
+        children += text.children;
+        if text.kind == LAST_TEXT {
+            return finish(table, plain_row(46, at.start, text.end, children), next);
+        }
+        let r = open(s, next, OPEN_BRACE, limits);
+        let Read::Done(_, inside) = r else {
+            return r;
+        };
+        let r = expr(s, table, inside, limits.opened(), true);
+        let Read::Done(_, next) = r else {
+            return r;
+        };
+        if next.word != CLOSE_BRACE {
+            return unusable(next);
+        }
+        children += 1;
+        here = next;
+    }
 }
 
 // A path, or a record that a path begins.

@@ -117,7 +117,7 @@ fn escape(t: &[u8]) -> Piece
 }
 
 // The character at the front of a text, between quotes of one kind.
-fn piece_of(t: &[u8], quote: u16) -> Piece
+pub fn piece_of(t: &[u8], quote: u16) -> Piece
     ensures { λ r. ⌜ r ≡ pieceOf quote (now (t .entry)) ⌝ }
 {
     let b = chars::byte_at(t, 0);
@@ -133,7 +133,7 @@ fn piece_of(t: &[u8], quote: u16) -> Piece
     Piece::None
 }
 
-fn width(c: u64) -> usize
+pub fn width(c: u64) -> usize
     ensures { λ r. ⌜ r ≡ widthOf c ⌝ }
 {
     if c < 128 {

@@ -73,6 +73,10 @@ pub tail7 : (a b c d e f g : Bool) {h v : Bool} → h ≡ v → (((((((a || b) |
 tail7 true b c d e f g q = refl
 tail7 false b c d e f g q = tail6 b c d e f g q
 
+pub tail8 : (a b c d e f g h : Bool) {i v : Bool} → i ≡ v → ((((((((a || b) || c) || d) || e) || f) || g) || h) || i) ≡ (a || (b || (c || (d || (e || (f || (g || (h || v))))))))
+tail8 true b c d e f g h q = refl
+tail8 false b c d e f g h q = tail7 b c d e f g h q
+
 pub or-apart : (a b c d : Bool) → (((a || b) || c) || d) ≡ (a || (b || (c || d)))
 or-apart true b c d = refl
 or-apart false true c d = refl
@@ -104,9 +108,9 @@ filter-second x t n = elim (or-cases (eqb x 65) (one-of x (66 ∷ [])) t) [
   | inr e ↦ subst (λ (y : ℕ). 2 ≡ detail-for 45 y) (sym (the-word {x = x} {c = 66} e)) refl
 ]
 
--- what begins an expr: a word of the first seven, or of three lists
-pub begins-expr : (x : ℕ) {l p f : Bool} → l ≡ one-of x literals → p ≡ one-of x path-items → f ≡ one-of x four-words → (((((((((eqb x 77 || eqb x 60) || eqb x 76) || eqb x 52) || eqb x 53) || eqb x 42) || eqb x 40) || l) || p) || f) ≡ one-of x exprFirsts
-begins-expr x {l} {p} {f} i j k = or-apart ((((((eqb x 77 || eqb x 60) || eqb x 76) || eqb x 52) || eqb x 53) || eqb x 42) || eqb x 40) l p f ∙ tail7 (eqb x 77) (eqb x 60) (eqb x 76) (eqb x 52) (eqb x 53) (eqb x 42) (eqb x 40) (rw (i, j, k) (ap (λ (b : Bool). one-of x literals || b) (either-list x path-items four-words) ∙ either-list x literals (path-items ++ four-words)))
+-- what begins an expr: a word of the first eight, or of three lists
+pub begins-expr : (x : ℕ) {l p f : Bool} → l ≡ one-of x literals → p ≡ one-of x path-items → f ≡ one-of x four-words → ((((((((((eqb x 77 || eqb x 60) || eqb x 76) || eqb x 52) || eqb x 53) || eqb x 42) || eqb x 40) || eqb x 90) || l) || p) || f) ≡ one-of x exprFirsts
+begins-expr x {l} {p} {f} i j k = or-apart (((((((eqb x 77 || eqb x 60) || eqb x 76) || eqb x 52) || eqb x 53) || eqb x 42) || eqb x 40) || eqb x 90) l p f ∙ tail8 (eqb x 77) (eqb x 60) (eqb x 76) (eqb x 52) (eqb x 53) (eqb x 42) (eqb x 40) (eqb x 90) (rw (i, j, k) (ap (λ (b : Bool). one-of x literals || b) (either-list x path-items four-words) ∙ either-list x literals (path-items ++ four-words)))
 
 -- none of a list, word by word; its place there is 0
 abbrev pub Outside : ℕ → List ℕ → Type 0

@@ -141,6 +141,7 @@ pub fn can_begin_expr(word: u64) -> bool
         | (word == 53)
         | (word == 42)
         | (word == 40)
+        | (word == 90)
         | is_literal(word)
         | is_path_item(word)
         | is_four(word)

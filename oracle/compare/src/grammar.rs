@@ -1,4 +1,4 @@
-//! Texts of document 01's grammar for entries (a) and (b), some nested as deep as its limits, and damaged ones.
+//! Texts of the grammar of documents 01 and 02 for entries (a) and (b), some nested as deep as its limits, and damaged ones.
 
 use crate::{lexing, random::Random, run::Sink, texts};
 
@@ -10,12 +10,46 @@ const TOKENS: [&str; 56] = [
     "fn", "filter", "test", "record", "0x", "f\"", "$", "'' ",
 ];
 
+/// What goes a level deeper, and what closes it again.
+const FORMS: [(&str, &str); 23] = [
+    ("(", ")"),
+    ("{", "}"),
+    ("f(", ")"),
+    ("{a: ", "}"),
+    ("a{b: ", "}"),
+    ("!", ""),
+    ("-", ""),
+    ("a-", ""),
+    ("return ", ""),
+    ("accept !", ""),
+    ("if ", "{}"),
+    ("while ", "{}"),
+    ("for a in ", "{}"),
+    ("match ", "{}"),
+    ("if a {", "}"),
+    ("if (", ") {}"),
+    ("match a {b => ", "}"),
+    ("match a {b if ", " => 1}"),
+    ("if a {} else ", ""),
+    ("{let a: b[c] = ", ";}"),
+    ("f\"{", "}\""),
+    ("f\"a{", "}{{\""),
+    ("{f\"{1}{ ", "}\"}"),
+];
+
 /// Every text of up to so many of these tokens; a list of the caller's own instead if there is one.
-pub fn tokens(sink: &mut Sink, entry: u8, longest: usize, list: &str, frame: (&[u8], &[u8])) {
-    let own: Vec<&[u8]> = list.split(' ').filter(|word| !word.is_empty()).map(str::as_bytes).collect();
+pub fn tokens(
+    sink: &mut Sink,
+    entry: u8,
+    longest: usize,
+    own: &[Vec<u8>],
+    between: &[u8],
+    frame: (&[u8], &[u8]),
+) {
+    let own: Vec<&[u8]> = own.iter().map(Vec::as_slice).collect();
     let all: Vec<&[u8]> = TOKENS.iter().map(|text| text.as_bytes()).collect();
     let parts = if own.is_empty() { all } else { own };
-    lexing::joined(sink, entry, &parts, longest, b" ", frame);
+    lexing::joined(sink, entry, &parts, longest, between, frame);
 }
 
 pub fn random(sink: &mut Sink, entry: Option<u8>, count: u64, seed: u64, damaged: bool) {
@@ -28,12 +62,41 @@ pub fn random(sink: &mut Sink, entry: Option<u8>, count: u64, seed: u64, damaged
         let mut source = one(&mut r, entry);
         if damaged {
             for _ in 0..1 + r.below(2) {
-                texts::damage(&mut r, &mut source);
+                match r.once_in(4) {
+                    true => stray(&mut r, &mut source),
+                    false => texts::damage(&mut r, &mut source),
+                }
             }
         }
         let room = if r.once_in(8) { Some(r.below(40) as u64) } else { None };
         sink.case(entry, &source, room);
     }
+}
+
+/// Puts in a part of an f-string, or a text that is against the string rule.
+fn stray(r: &mut Random, source: &mut Vec<u8>) {
+    const PARTS: [&str; 18] = [
+        "f\"",
+        "\"",
+        "{",
+        "}",
+        "{{",
+        "}}",
+        "\\",
+        "\\u",
+        "\\u{",
+        "\\U{41}",
+        "\\u{d800}",
+        "\\x7b",
+        "\\x80",
+        "\\q",
+        "\\\n",
+        "\r",
+        "\"}",
+        "f\"{",
+    ];
+    let at = r.below(source.len() + 1);
+    source.splice(at..at, r.pick(&PARTS).bytes());
 }
 
 fn one(r: &mut Random, entry: u8) -> Vec<u8> {
@@ -314,7 +377,7 @@ impl Text<'_> {
 
     fn atom(&mut self) {
         let deep = self.spend();
-        match self.r.below(if deep { 10 } else { 4 }) {
+        match self.r.below(if deep { 12 } else { 4 }) {
             0 | 1 => self.literal(),
             4 | 5 => {
                 let ban = std::mem::replace(&mut self.ban, false);
@@ -330,7 +393,65 @@ impl Text<'_> {
                 self.list("{", "}", 0, Self::field);
             }
             9 if !self.ban => self.list("{", "}", 1, Self::field),
+            10 | 11 => self.f_string(),
             _ => self.path(),
+        }
+    }
+
+    fn f_string(&mut self) {
+        self.put("f\"");
+        self.piece();
+        self.times(3, |text| {
+            text.hole();
+            text.piece();
+        });
+        self.out.push(b'"');
+    }
+
+    /// `{{` would be text, so a blank stands before a brace that is the hole's first byte.
+    fn hole(&mut self) {
+        let ban = std::mem::replace(&mut self.ban, false);
+        self.out.push(b'{');
+        let inside = self.out.len();
+        self.expr();
+        if self.out[inside] == b'{' {
+            self.out.insert(inside, b' ');
+        }
+        self.put("}");
+        self.ban = ban;
+    }
+
+    /// Text of an f-string: bytes, escapes, and braces written as pairs or escaped; a `}` may be alone.
+    fn piece(&mut self) {
+        const TEXTS: [&str; 24] = [
+            "a",
+            "peer ",
+            " ",
+            ":",
+            "'",
+            "//",
+            "\n",
+            "\t",
+            "}",
+            "}}",
+            "}}}",
+            "{{",
+            "{{}}",
+            "\\n",
+            "\\0",
+            "\\\\",
+            "\\\"",
+            "\\'",
+            "\\x7b",
+            "\\x7d",
+            "\\u{7b}",
+            "\\u{e9}",
+            "\\u{1_F600}",
+            "\\u{10ffff}",
+        ];
+        for _ in 0..self.r.below(4) {
+            let text = self.r.pick(&TEXTS);
+            self.out.extend_from_slice(text.as_bytes());
         }
     }
 
@@ -358,6 +479,9 @@ impl Text<'_> {
             "true",
             "false",
             "\"\\n\\u{41}\" ",
+            "f\"\"",
+            "f\"s\"",
+            "f\"{{{1}\"",
         ]);
     }
 
@@ -430,28 +554,6 @@ impl Text<'_> {
 
     /// Up to three layers of one form, each about as many deep as a limit allows.
     fn nested(&mut self) {
-        const FORMS: [(&str, &str); 20] = [
-            ("(", ")"),
-            ("{", "}"),
-            ("f(", ")"),
-            ("{a: ", "}"),
-            ("a{b: ", "}"),
-            ("!", ""),
-            ("-", ""),
-            ("a-", ""),
-            ("return ", ""),
-            ("accept !", ""),
-            ("if ", "{}"),
-            ("while ", "{}"),
-            ("for a in ", "{}"),
-            ("match ", "{}"),
-            ("if a {", "}"),
-            ("if (", ") {}"),
-            ("match a {b => ", "}"),
-            ("match a {b if ", " => 1}"),
-            ("if a {} else ", ""),
-            ("{let a: b[c] = ", ";}"),
-        ];
         let mut ends = Vec::new();
         for _ in 0..1 + self.r.below(3) {
             let (open, close) = FORMS[self.r.below(FORMS.len())];
@@ -461,7 +563,9 @@ impl Text<'_> {
                 ends.push(close);
             }
         }
-        self.words(&["a", "1", "(a)", "b.c", "f(a)", "if a {}", "return", "a{}", "{}", ")", "()"]);
+        self.words(&[
+            "a", "1", "(a)", "b.c", "f(a)", "if a {}", "return", "a{}", "{}", ")", "()", "f\"a\"", "f\"{a}\"",
+        ]);
         for close in ends.iter().rev() {
             self.out.extend_from_slice(close.as_bytes());
         }

@@ -1,5 +1,6 @@
 //! Cases made up in many ways, answered by two programs, compared.
 
+mod causes;
 mod grammar;
 mod lexing;
 mod random;
@@ -18,17 +19,19 @@ compare sample COUNT SEED PROGRAM ..     prints cases of entry (c) with PROGRAM'
 LEFT and RIGHT: oracle, full, ours (by tools/batch), or the path of a program.
 Modes:
   exhaustive ALPHABET LONGEST    every text of up to LONGEST bytes; \\n \\t \\r \\\\ \\xHH stand for bytes
-  tokens LONGEST                 every text of up to LONGEST tokens of a fixed list, a space between
+  tokens LONGEST                 every text of up to LONGEST tokens of a fixed list
   random COUNT SEED              tokens, near misses, blanks and comments, damage (made for entry c)
-  valid COUNT SEED               texts of document 01's grammar, some at its limits (entries a and b)
+  valid COUNT SEED               texts of the grammar, f-strings among them, some at its limits (entries a and b)
   damaged COUNT SEED             such texts, damaged
   values COUNT SEED              single literals, good and bad (entry b; strings by e too)
 Options:
   -e ENTRY        a, b, c or e (else c for exhaustive and random, b for tokens, a and b by turns for the others)
-  --list TOKENS   tokens for `tokens` instead of its own, a space between
+  --list TOKENS   tokens for `tokens` instead of its own, a space between; \\x20 and the like stand for bytes
+  --between TEXT  put between the tokens of a text instead of a space
   --before TEXT   put before each text of `tokens`
   --after TEXT    put after it
   --classes       differences gathered by kind, each with its first input
+  --causes        for oracle and full: by the cause that docs/DIFFERENCES.md lists, or none
   --spoil N       every Nth answer of RIGHT is changed first: that many differences must be found
 ";
 
@@ -80,7 +83,8 @@ fn program(name: &str) -> Vec<String> {
 struct Arguments {
     options: Options,
     entry: Option<u8>,
-    list: String,
+    list: Vec<Vec<u8>>,
+    between: Vec<u8>,
     before: Vec<u8>,
     after: Vec<u8>,
     mode: Vec<String>,
@@ -89,18 +93,27 @@ struct Arguments {
 fn arguments(programs: [Vec<String>; 2], words: &[String]) -> Arguments {
     let mut rest = words.iter();
     let mut word = || rest.next().cloned();
-    let options = Options { programs, spoil: None, classes: false };
-    let mut all =
-        Arguments { options, entry: None, list: String::new(), before: vec![], after: vec![], mode: vec![] };
+    let options = Options { programs, spoil: None, gather: None };
+    let mut all = Arguments {
+        options,
+        entry: None,
+        list: vec![],
+        between: b" ".to_vec(),
+        before: vec![],
+        after: vec![],
+        mode: vec![],
+    };
     while let Some(next) = word() {
         let mut value = || word().unwrap_or_else(|| usage());
         match next.as_str() {
             "-e" => all.entry = value().bytes().next(),
-            "--list" => all.list = value(),
+            "--list" => all.list = value().split(' ').filter(|word| !word.is_empty()).map(bytes).collect(),
+            "--between" => all.between = bytes(&value()),
             "--before" => all.before = bytes(&value()),
             "--after" => all.after = bytes(&value()),
             "--spoil" => all.options.spoil = Some(number(&value())),
-            "--classes" => all.options.classes = true,
+            "--classes" => all.options.gather = Some(run::class),
+            "--causes" => all.options.gather = Some(causes::cause),
             _ => all.mode.push(next),
         }
     }
@@ -116,7 +129,7 @@ fn generate(all: &Arguments, sink: &mut Sink) {
         }
         ["tokens", longest] => {
             let frame = (&all.before[..], &all.after[..]);
-            grammar::tokens(sink, entry.unwrap_or(b'b'), number(longest), &all.list, frame)
+            grammar::tokens(sink, entry.unwrap_or(b'b'), number(longest), &all.list, &all.between, frame)
         }
         ["random", count, seed] => lexing::random(sink, entry.unwrap_or(b'c'), number(count), number(seed)),
         ["valid", count, seed] => grammar::random(sink, entry, number(count), number(seed), false),

@@ -35,9 +35,12 @@ pub struct Options {
     pub programs: [Vec<String>; 2],
     /// Every so many answers of the right program are changed before they are compared: a test of the comparison.
     pub spoil: Option<u64>,
-    /// Differences are gathered by kind, with the first and so smallest input of each.
-    pub classes: bool,
+    /// Differences are gathered by what this says of them, with the first and so smallest input of each.
+    pub gather: Option<Gather>,
 }
+
+/// A word for a difference, from the source and the two answers.
+pub type Gather = fn(&[u8], &[u8], &[u8]) -> String;
 
 /// Takes cases from a generator and hands full batches on.
 pub struct Sink {
@@ -205,8 +208,9 @@ impl Report {
                 spoil(&mut right[i]);
             }
             if left[i] != right[i] {
-                let shown = show(case, &batch.input[case.source.clone()]);
-                self.difference(options, shown, &left[i], &right[i]);
+                let source = &batch.input[case.source.clone()];
+                let class = options.gather.map(|gather| gather(source, &left[i], &right[i]));
+                self.difference(class, show(case, source), &left[i], &right[i]);
             }
         }
     }
@@ -233,10 +237,9 @@ impl Report {
         }
     }
 
-    fn difference(&mut self, options: &Options, shown: String, left: &[u8], right: &[u8]) {
+    fn difference(&mut self, class: Option<String>, shown: String, left: &[u8], right: &[u8]) {
         self.differences += 1;
-        if options.classes {
-            let class = class(left, right);
+        if let Some(class) = class {
             let text = format!("{shown}\n  left  {}\n  right {}", one_line(left), one_line(right));
             self.classes.entry(class).or_insert((0, text)).0 += 1;
         } else if self.differences <= SHOWN as u64 {
@@ -260,7 +263,7 @@ impl Report {
 }
 
 /// Both verdicts, and where both accept the first numbers of the first lines that differ.
-fn class(left: &[u8], right: &[u8]) -> String {
+pub fn class(_source: &[u8], left: &[u8], right: &[u8]) -> String {
     let verdict = |answer: &[u8]| {
         let line = answer.split(|byte| *byte == b'\n').next().unwrap_or(b"");
         match line.starts_with(b"accepted") {

@@ -86,8 +86,11 @@ fn tokens(source: &str) -> Result<Vec<[u64; 3]>, Refusal> {
     let mut list = Vec::new();
     while let Some((token, span)) = lexer.next() {
         match token {
+            Ok(Token::FStringStart) if !crate::LISTS_F_STRINGS => {
+                return Err(Refusal::new(5, span.start, span.end));
+            }
             Ok(token) => list.push([code(&token), span.start as u64, span.end as u64]),
-            Err(()) => return Err(no_token(source, span.start, span.end)),
+            Err(()) => return Err(Refusal::new(4, span.start, span.end)),
         }
     }
     Ok(list)
@@ -133,16 +136,10 @@ fn refusal(source: &str, error: &ParseError) -> Refusal {
     let (start, end) = (error.location.start, error.location.end);
     // What is left over may be no token at all, and then that is said first.
     let left = source.get(start..).and_then(|tail| Lexer::new(0, tail).next());
-    match (error.number(), left) {
-        (4, _) => no_token(source, start, end),
-        (6, Some((Err(()), _))) => no_token(source, start, end),
-        (number, _) => Refusal::new(number, start, end),
-    }
-}
-
-/// 4 where no token starts, 5 for `f"`. A byte `f` begins a token otherwise, so the two can't be mixed up.
-fn no_token(source: &str, start: usize, end: usize) -> Refusal {
-    let number = if source[start..].starts_with("f\"") { 5 } else { 4 };
+    let number = match (error.number(), left) {
+        (6, Some((Err(()), _))) => 4,
+        (number, _) => number,
+    };
     Refusal::new(number, start, end)
 }
 

@@ -1,10 +1,10 @@
-//! Document 01's rows from the Rust's tree: children before their parent, left to right.
+//! The rows of document 01, and of document 02's C-11, from the Rust's tree: children before their parent, left to right.
 //!
 //! "A span runs from the first to the last byte of its tokens, but where a node begins or ends with a child, that
 //! child's row gives that end. Parentheses round an expr give no row and widen no span."
 //!
 //! Kinds that document 01 hasn't, made by `full` alone: 90 `()` as an expression, 91 list, 92 record declaration,
-//! 93 enum declaration, 94 variant of an enum, 95 f-string, 96 text of an f-string; detail 14 of 20 is `**`.
+//! 93 enum declaration, 94 variant of an enum; detail 14 of 20 is `**`.
 
 use std::net::IpAddr;
 
@@ -56,7 +56,7 @@ fn token_at(source: &str, at: usize) -> (Option<Token<'_>>, Place) {
 }
 
 /// "Declaration spans are added": the end of the `;` that closes a declaration whose last row ends at a place. Only
-/// closing parentheses, and in the full commit the quote of an f-string, can stand between.
+/// closing parentheses, and before them the quote of an f-string, can stand between.
 fn after_semicolon(source: &str, mut at: usize) -> usize {
     if source[at..].starts_with('"') {
         at += 1;
@@ -379,11 +379,11 @@ impl Rows<'_> {
     fn f_string(&mut self, place: Place, parts: &[Meta<FStringPart>]) -> Place {
         for part in parts {
             match &part.node {
-                FStringPart::String(text) => _ = self.put(96, self.span(part), 0, text.len() as u64, 0),
+                FStringPart::String(text) => _ = self.put(47, self.span(part), 0, text.len() as u64, 0),
                 FStringPart::Expr(expr) => _ = self.expr(expr),
             }
         }
-        self.put(95, place, parts.len(), 0, 0)
+        self.put(46, place, parts.len(), 0, 0)
     }
 
     fn literal(&mut self, place: Place, literal: &Literal) -> Place {

@@ -12,6 +12,9 @@ mod rows;
 
 use protocol::Refusal;
 
+/// The commit has a token for `f"`, with code 90 here.
+const LISTS_F_STRINGS: bool = true;
+
 /// The commit takes any text; bytes that are none have no answer there, and are given as 2 at the first of them.
 fn whole(source: &[u8]) -> Result<&str, Refusal> {
     std::str::from_utf8(source).map_err(|e| {

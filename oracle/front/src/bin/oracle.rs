@@ -14,6 +14,9 @@ use protocol::Refusal;
 
 const LONGEST: usize = 65_535;
 
+/// C-11: "5 remains for the token list only".
+const LISTS_F_STRINGS: bool = false;
+
 /// "1, 2, 3 are tested first, in that order": longer than 65,535; byte of 128 or more; source begins `#!`.
 fn whole(source: &[u8]) -> Result<&str, Refusal> {
     if source.len() > LONGEST {

@@ -1,5 +1,5 @@
 //! How much stack the compiled library takes, measured on stacks of our own that were painted before: for each way to go
-//! one level deeper that document 01 limits, and for the deepest source that the limits leave. Frames add up, so that
+//! one level deeper that documents 01 and 02 limit, and for the deepest source that the limits leave. Frames add up, so that
 //! source takes the dearest way at each level.
 
 use std::arch::asm;
@@ -114,6 +114,7 @@ fn main() {
         "match 1{a if ",
         "if 1{",
         "for a in 1{let a=",
+        "f\"{",
     ]);
     brackets.extend(["", "let a="].iter().flat_map(|first| {
         [format!("{}else if 1{{{first}", chain(LIMIT - 1)), format!("{}else{{{first}", chain(LIMIT))]
@@ -135,6 +136,7 @@ fn main() {
         "1:2:3:4:5:6:7:8",
         "\"\\u{1f600}\" ",
         "'\\u{1f600}' ",
+        "f\"\\u{1f600}\"",
         "a.b?",
     ];
     let sources = leaves.map(|leaf| format!("const A:a={outside}{before}{plain}{before}{leaf}"));

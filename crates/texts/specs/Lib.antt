@@ -1,0 +1,5 @@
+pub mod Signs
+pub mod Parts
+pub mod Texts
+pub mod Modes
+pub mod Halves
