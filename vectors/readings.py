@@ -1,5 +1,5 @@
 """readings.py DEEPEST RECORDED ..: cases of entries (a) and (b) in the form of the drivers: document 01's worked pairs and its printer's
-source, each form, literals with every suffix and at the edges of every type, f-strings, the limits alone and together, the longest sources, the one that nests deepest, little room,
+source, each form, literals with every suffix and at the edges of every type, addresses with a dotted end, f-strings, the limits alone and together, the longest sources, the one that nests deepest, little room,
 and the short ones among recorded cases."""
 import itertools, sys
 
@@ -35,6 +35,14 @@ literals += [b'0x', b'0x0', b'0xfF', b'0x_1', b'0xg', b'0x7fffffffffffffff', b'0
              b'true', b'false', b'True', b'true1', b'true ', b'!false', b"'a' ", b"'a'", b"'' ", b"'ab' ", b"'\\n' ", b"'\\'' ", b"'\\\\' ", b"'\\\"' ", b"'\\0' ", b"'\\q' ",
              b"'\\x41' ", b"'\\x7f' ", b"'\\x80' ", b"'\\u{0}' ", b"'\\u{10ffff}' ", b"'\\u{110000}' ", b"'\\u{d800}' ", b"'\\u{1_0}' ", b"'\\u{}' ",
              b"'\n' ", b"'\t' ", b"'\r' ", b"'\"' ", b"'\\", b"'a"]
+
+# Addresses with a dotted end (document 02, C-16): groups before a quad, with a `::` at each place and without; ends that are none; what follows.
+quads = [b'7.8.9.10', b'0.0.0.0', b'255.255.255.255', b'256.0.0.0', b'1.2.3.256', b'01.2.3.4', b'1.2.3.04', b'1.2.3.0004', b'12345.1.1.1', b'1.2', b'1.2.3', b'1.2.3.', b'1..2.3', b'.1.2.3',
+         b'a1.2.3.4', b'1a.2.3.4', b'1.2.3.4.5', b'1.2.3.4.a', b'1.2.3.4a', b'1.2.3.4:5', b'1.2.3.4::', b'1.2.3.4 .a']
+groups = [b'%x' % n for n in range(1, 8)]
+fronts = [b':'.join(groups[:n]) + b':' for n in range(1, 8)] + [b':'.join(groups[:n]) + b'::' + b''.join(g + b':' for g in groups[n:m]) for m in range(8) for n in range(m + 1)]
+literals += [front + quads[0] for front in fronts] + [front + quad for front in (b'::', b'::ffff:', b'1:2:3:4:5:6:', b'a:1:', b':', b'1:', b':::') for quad in quads]
+literals += [b'0:0:0:0:0:0:13.1.68.3', b'0:0:0:0:0:FFFF:129.144.52.38', b'::13.1.68.3', b'::FFFF:129.144.52.38', b'1:1:1.1.1.1:1:1', b'1:1.1.1.1:1.1.1..', b'{a:b::1.2.3.4}', b'a(::1.2.3.4, 1)']
 
 # F-strings (document 02, C-11): in each place where one may or may not stand, `@` being a whole one, an empty one, one without end and one with a bad text.
 whole = [b'f"a{1}"', b'f""', b'f"', b'f"\\q"']

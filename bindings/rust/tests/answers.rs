@@ -50,6 +50,15 @@ fn a_value_is_any_number_that_its_suffix_holds() {
 }
 
 #[test]
+fn an_address_may_end_in_a_dotted_quad() {
+    let mut reader = Reader::default();
+    let rows: Vec<_> = reader.expression(b"::ffff:1.2.3.4").unwrap().collect();
+    assert_eq!(rows, [[15, 0, 14, 0, 0, 0xffff_0102_0304]]);
+    assert_eq!(reader.expression(b"::256.0.0.0").err(), Some(refusal(7, 0, 11)));
+    assert_eq!(reader.expression(b"::1.2").err(), Some(refusal(6, 4, 5)));
+}
+
+#[test]
 fn an_f_string_has_its_texts_and_its_holes() {
     let mut reader = Reader::default();
     let rows: Vec<_> = reader.expression(br#"f"{{peer}} {x} down""#).unwrap().collect();

@@ -10,8 +10,8 @@ use native.Mathlib.Decide.{ℕ-discrete}
 use native.Mathlib.Omega.{arith}
 use lib.ListN.{length, getD, take, drop, replicate, drop-of-length-le, length-append, length-replicate}
 use lib.Seq.{drop-cons}
-use lib.Dec.{eqb, leb, lit<}
-use borrow.Author.Tests.{le-leb, lt-leb, leb-true, leb-false, eq-eqb, ne-eqb, lt-ltb, le-ltb}
+use lib.Dec.{eqb, ltb, leb, lit<}
+use borrow.Author.Tests.{le-leb, leb-true, leb-false, eq-eqb, ne-eqb, eqb-true, lt-ltb, le-ltb, ltb-true}
 use Rattle.chars.specs.Chars.{byteAt}
 use Rattle.chars.proofs.Runs.{byte-in, within}
 use Rattle.numbers.specs.declared.Number.{Number}
@@ -22,10 +22,9 @@ use Rattle.addresses.specs.declared.Form.{Form}
 use Rattle.addresses.specs.declared.Wide.{Wide}
 use Rattle.addresses.specs.declared.Groups.{Groups}
 use Rattle.addresses.specs.declared.Quad.{Quad}
-use Rattle.addresses.specs.declared.Address.{Address}
 use Rattle.addresses.specs.Groups as spec
-use Rattle.addresses.specs.Groups.{groupOf, parts, before, valuesOf, pushOf, pushAll, heard, eightOf}
-use Rattle.addresses.specs.Addresses.{exactly, octetsOf, asQuad, quadOf, gap, sideOf, filled, groupsOf, asAddress, wideOf}
+use Rattle.addresses.specs.Groups.{groupOf, parts, before, valuesOf, pushOf, pushAll, heard, onlyOf}
+use Rattle.addresses.specs.Addresses.{exactly, octetsOf, asQuad, quadOf, gap, sideOf, filled, groupsIn}
 use Rattle.addresses.proofs.Parts.{group-top, topOf}
 
 -- two colons
@@ -109,85 +108,85 @@ module _ (form : Form) (n : ℕ) (w : Wide) where
   pub heard-not : (o : Option (List ℕ)) → heard form n w o ≡ Groups.None → (vs : List ℕ) → o ≡ some vs → 8 < n + length vs
   heard-not o e = subst (Said o) e (said o)
 
--- more than seven groups beside the `::`, or a side that is none
-unfilled : (L R : Option (List ℕ)) → ((vs ws : List ℕ) → L ≡ some vs → R ≡ some ws → 7 < length vs + length ws) → filled L R ≡ none
+-- too many groups beside the `::`, or a side that is none
+unfilled : (m : ℕ) (L R : Option (List ℕ)) → ((vs ws : List ℕ) → L ≡ some vs → R ≡ some ws → m ≤ length vs + length ws) → filled m L R ≡ none
 unfolding filled
-unfilled none R h = refl
-unfilled (some vs) none h = refl
-unfilled (some vs) (some ws) h = sym (second _ (lt-leb _ _ (h vs ws refl refl)) refl)
+unfilled m none R h = refl
+unfilled m (some vs) none h = refl
+unfilled m (some vs) (some ws) h = sym (second _ (le-ltb _ _ (h vs ws refl refl)) refl)
 
-pub filled-are : (vs ws : List ℕ) → length vs + length ws ≤ 7 → filled (some vs) (some ws) ≡ some (vs ++ replicate (8 - (length vs + length ws)) 0 ++ ws)
+pub filled-are : (m : ℕ) (vs ws : List ℕ) → length vs + length ws < m → filled m (some vs) (some ws) ≡ some (vs ++ replicate (m - (length vs + length ws)) 0 ++ ws)
 unfolding filled
-filled-are vs ws h = sym (first _ (le-leb _ _ h) refl)
+filled-are m vs ws h = sym (first _ (lt-ltb _ _ h) refl)
 
-module _ (L R : Option (List ℕ)) (z : Wide) where
-  refused : filled L R ≡ none → Groups.None ≡ heard Form.Hexed 0 z (filled L R)
+module _ {m : ℕ} (top : m ≤ 8) (L R : Option (List ℕ)) (z : Wide) where
+  refused : filled m L R ≡ none → Groups.None ≡ heard Form.Hexed 0 z (filled m L R)
   unfolding heard
   refused e = rw e refl
 
-  pub short-left : (w : Wide) → heard Form.Hexed 0 w L ≡ Groups.None → Groups.None ≡ heard Form.Hexed 0 z (filled L R)
-  short-left w e = refused (unfilled L R (λ vs ws p q. omega (arith, heard-not Form.Hexed 0 w L e vs p)))
+  pub short-left : (w : Wide) → heard Form.Hexed 0 w L ≡ Groups.None → Groups.None ≡ heard Form.Hexed 0 z (filled m L R)
+  short-left w e = refused (unfilled m L R (λ vs ws p q. omega (arith, heard-not Form.Hexed 0 w L e vs p)))
 
-  pub short-right : (w : Wide) → heard Form.Hexed 0 w R ≡ Groups.None → Groups.None ≡ heard Form.Hexed 0 z (filled L R)
-  short-right w e = refused (unfilled L R (λ vs ws p q. omega (arith, heard-not Form.Hexed 0 w R e ws q)))
+  pub short-right : (w : Wide) → heard Form.Hexed 0 w R ≡ Groups.None → Groups.None ≡ heard Form.Hexed 0 z (filled m L R)
+  short-right w e = refused (unfilled m L R (λ vs ws p q. omega (arith, heard-not Form.Hexed 0 w R e ws q)))
 
-push-append : (form : Form) (w : Wide) (vs ws : List ℕ) → pushAll form w (vs ++ ws) ≡ pushAll form (pushAll form w vs) ws
+pub push-append : (form : Form) (w : Wide) (vs ws : List ℕ) → pushAll form w (vs ++ ws) ≡ pushAll form (pushAll form w vs) ws
 unfolding pushAll
 push-append form w [] ws = refl
 push-append form w (v ∷ vs) ws = push-append form (pushOf form w v) vs ws
 
-module _ (L R : Option (List ℕ)) (w : Wide) {c d : ℕ} {x y v : Wide} (hl : Heard Form.Hexed 0 w L c x) (hr : Heard Form.Hexed 0 v R d y) where
-  filled-by : filled L R ≡ filled (some (hl .vs)) (some (hr .vs))
-  filled-by = ap₂ filled (hl .are) (hr .are)
+module _ {m : ℕ} (top : m ≤ 8) (L R : Option (List ℕ)) (w : Wide) {c d : ℕ} {x y v : Wide} (hl : Heard Form.Hexed 0 w L c x) (hr : Heard Form.Hexed 0 v R d y) where
+  filled-by : filled m L R ≡ filled m (some (hl .vs)) (some (hr .vs))
+  filled-by = ap₂ (filled m) (hl .are) (hr .are)
 
-  pub short-over : 7 < c + d → Groups.None ≡ heard Form.Hexed 0 w (filled L R)
-  short-over h = refused L R w (filled-by ∙ unfilled (some (hl .vs)) (some (hr .vs)) (λ vs ws p q. many vs ws (some-same p) (some-same q)))
+  pub short-over : m ≤ c + d → Groups.None ≡ heard Form.Hexed 0 w (filled m L R)
+  short-over h = refused top L R w (filled-by ∙ unfilled m (some (hl .vs)) (some (hr .vs)) (λ vs ws p q. many vs ws (some-same p) (some-same q)))
     where
-      many : (vs ws : List ℕ) → hl .vs ≡ vs → hr .vs ≡ ws → 7 < length vs + length ws
+      many : (vs ws : List ℕ) → hl .vs ≡ vs → hr .vs ≡ ws → m ≤ length vs + length ws
       many vs ws p q = omega (arith, h, hl .count, hr .count, ap length p, ap length q)
 
-  pub short-is : {u : Wide} {r : Groups} → c + d ≤ 7 → u ≡ pushAll Form.Hexed x (replicate (8 - (c + d)) 0) → r ≡ heard Form.Hexed (8 - d) u R → r ≡ heard Form.Hexed 0 w (filled L R)
+  pub short-is : {u : Wide} {r : Groups} → c + d < m → u ≡ pushAll Form.Hexed x (replicate (m - (c + d)) 0) → r ≡ heard Form.Hexed (m - d) u R → r ≡ heard Form.Hexed 0 w (filled m L R)
   unfolding heard
   short-is {u} h hu e =
       let vs : List ℕ = hl .vs in
       let ws : List ℕ = hr .vs in
-      let zs : List ℕ = replicate (8 - (length vs + length ws)) 0 in
+      let zs : List ℕ = replicate (m - (length vs + length ws)) 0 in
       let hc : c ≡ length vs = hl .count ∙ zero-add (length vs) in
       let hd : d ≡ length ws = hr .count ∙ zero-add (length ws) in
-      let m : 8 - d + length ws ≡ 8 = omega arith in
-      let k : 0 + length (vs ++ zs ++ ws) ≡ 8 = omega (arith, length-append (vs ++ zs) ws, length-append vs zs, length-replicate {A = ℕ} (8 - (length vs + length ws)) 0) in
+      let n : m - d + length ws ≡ m = omega arith in
+      let k : 0 + length (vs ++ zs ++ ws) ≡ m = omega (arith, length-append (vs ++ zs) ws, length-append vs zs, length-replicate {A = ℕ} (m - (length vs + length ws)) 0) in
       let q : pushAll Form.Hexed u ws ≡ pushAll Form.Hexed w (vs ++ zs ++ ws) =
-      ap (λ p. pushAll Form.Hexed p ws) (hu ∙ ap₂ (λ p n. pushAll Form.Hexed p (replicate n 0)) (hl .wide) (ap₂ (λ a b. 8 - (a + b)) hc hd))
+      ap (λ p. pushAll Form.Hexed p ws) (hu ∙ ap₂ (λ p n. pushAll Form.Hexed p (replicate n 0)) (hl .wide) (ap₂ (λ a b. m - (a + b)) hc hd))
       ∙ sym (push-append Form.Hexed w (vs ++ zs) ws ∙ ap (λ p. pushAll Form.Hexed p ws) (push-append Form.Hexed w vs zs)) in
       e
-      ∙ ap (heard Form.Hexed (8 - d) u) (hr .are)
-      ∙ ap₂ (λ n p. choose (leb n 8) (Groups.Are n p) Groups.None) (m ∙ sym k) q
-      ∙ sym (ap (heard Form.Hexed 0 w) (filled-by ∙ filled-are vs ws (omega (arith, h))))
+      ∙ ap (heard Form.Hexed (m - d) u) (hr .are)
+      ∙ ap₂ (λ n p. choose (leb n 8) (Groups.Are n p) Groups.None) (n ∙ sym k) q
+      ∙ sym (ap (heard Form.Hexed 0 w) (filled-by ∙ filled-are m vs ws (omega (arith, h))))
 
--- a group by a group
-module _ {g : Groups} where
-  pub eight-is : {n : ℕ} {w : Wide} → g ≡ Groups.Are n w → n ≡ 8 → Address.Is (w .high) (w .low) ≡ eightOf g
-  unfolding eightOf
-  eight-is e h = rw e (first _ (eq-eqb _ _ h) refl)
+-- so many groups, or none
+module _ {g : Groups} (m : ℕ) where
+  pub only-is : {n : ℕ} {w : Wide} → g ≡ Groups.Are n w → n ≡ m → Groups.Are n w ≡ onlyOf m g
+  unfolding onlyOf
+  only-is e h = rw e (first _ (eq-eqb _ _ h) refl)
 
-  pub eight-not : {n : ℕ} {w : Wide} → g ≡ Groups.Are n w → (n ≡ 8 → ⊥) → Address.None ≡ eightOf g
-  unfolding eightOf
-  eight-not e h = rw e (second _ (ne-eqb _ _ h) refl)
+  pub only-not : {n : ℕ} {w : Wide} → g ≡ Groups.Are n w → (n ≡ m → ⊥) → Groups.None ≡ onlyOf m g
+  unfolding onlyOf
+  only-not e h = rw e (second _ (ne-eqb _ _ h) refl)
 
-  pub eight-none : g ≡ Groups.None → Address.None ≡ eightOf g
-  unfolding eightOf
-  eight-none e = rw e refl
+  pub only-none : g ≡ Groups.None → Groups.None ≡ onlyOf m g
+  unfolding onlyOf
+  only-none e = rw e refl
 
 -- values below a bound
-abbrev AllLt : ℕ → List ℕ → Type 0
+abbrev pub AllLt : ℕ → List ℕ → Type 0
 AllLt r [] = Unit {0}
 AllLt r (v ∷ vs) = (v < r) × AllLt r vs
 
-abbrev Below : ℕ → Option (List ℕ) → Type 0
+abbrev pub Below : ℕ → Option (List ℕ) → Type 0
 Below r (some vs) = AllLt r vs
 Below r none = Unit {0}
 
-values-below : (form : Form) (ps : List (List ℕ)) → Below (suc (topOf form)) (valuesOf form ps)
+pub values-below : (form : Form) (ps : List (List ℕ)) → Below (suc (topOf form)) (valuesOf form ps)
 unfolding valuesOf
 values-below form [] = tt
 values-below form (p ∷ ps) = go (groupOf form p) (valuesOf form ps) (λ v k e. suc-le-suc (group-top form p e)) (values-below form ps)
@@ -197,7 +196,7 @@ values-below form (p ∷ ps) = go (groupOf form p) (valuesOf form ps) (λ v k e.
     go (Number.Is v k) none h s = tt
     go Number.None o h s = tt
 
-all-append : (r : ℕ) (vs ws : List ℕ) → AllLt r vs → AllLt r ws → AllLt r (vs ++ ws)
+pub all-append : (r : ℕ) (vs ws : List ℕ) → AllLt r vs → AllLt r ws → AllLt r (vs ++ ws)
 all-append r [] ws h k = k
 all-append r (v ∷ vs) ws h k = (h .0, all-append r vs ws (h .1) k)
 
@@ -213,14 +212,17 @@ side-below t = go (eqb (length t) 0)
     go true = tt
     go false = values-below Form.Hexed (parts 58 t)
 
-filled-below : (L R : Option (List ℕ)) → Below 65536 L → Below 65536 R → Below 65536 (filled L R)
+filled-below : (m : ℕ) (L R : Option (List ℕ)) → Below 65536 L → Below 65536 R → Below 65536 (filled m L R)
 unfolding filled choose
-filled-below none R h k = tt
-filled-below (some vs) none h k = tt
-filled-below (some vs) (some ws) h k = go (leb (length vs + length ws) 7)
+filled-below m none R h k = tt
+filled-below m (some vs) none h k = tt
+filled-below m (some vs) (some ws) h k = go (ltb (length vs + length ws) m)
   where
-    go : (u : Bool) → Below 65536 (choose u (some (vs ++ replicate (8 - (length vs + length ws)) 0 ++ ws)) none)
-    go true = all-append 65536 (vs ++ replicate (8 - (length vs + length ws)) 0) ws (all-append 65536 vs (replicate (8 - (length vs + length ws)) 0) h (all-zeros 65536 (8 - (length vs + length ws)) (lit< tt))) k
+    zs : List ℕ
+    zs = replicate (m - (length vs + length ws)) 0
+
+    go : (u : Bool) → Below 65536 (choose u (some (vs ++ zs ++ ws)) none)
+    go true = all-append 65536 (vs ++ zs) ws (all-append 65536 vs zs h (all-zeros 65536 (m - (length vs + length ws)) (lit< tt))) k
     go false = tt
 
 -- the register: four groups in each half
@@ -277,7 +279,7 @@ all-eight a b c d e f g h s =
     ∙ shift 0 a b c d e f g h (s .0) (s .1 .0) (s .1 .1 .0) (s .1 .1 .1 .1 .0) (s .1 .1 .1 .1 .1 .0) (s .1 .1 .1 .1 .1 .1 .0)
 
 -- eight groups, four in each half
-eight-halves : (vs : List ℕ) → length vs ≡ 8 → AllLt 65536 vs → pushAll Form.Hexed spec.zero vs ≡ wide (valueOf 65536 (take 4 vs)) (valueOf 65536 (drop 4 vs))
+pub eight-halves : (vs : List ℕ) → length vs ≡ 8 → AllLt 65536 vs → pushAll Form.Hexed spec.zero vs ≡ wide (valueOf 65536 (take 4 vs)) (valueOf 65536 (drop 4 vs))
 eight-halves [] e s = absurd (omega (arith, e))
 eight-halves (a ∷ []) e s = absurd (omega (arith, e))
 eight-halves (a ∷ b ∷ []) e s = absurd (omega (arith, e))
@@ -289,70 +291,104 @@ eight-halves (a ∷ b ∷ c ∷ d ∷ f ∷ g ∷ h ∷ []) e s = absurd (omega 
 eight-halves (a ∷ b ∷ c ∷ d ∷ f ∷ g ∷ h ∷ i ∷ []) e s = all-eight a b c d f g h i s
 eight-halves (a ∷ b ∷ c ∷ d ∷ f ∷ g ∷ h ∷ i ∷ j ∷ vs) e s = absurd (omega (arith, e))
 
--- an address from what was heard
-module _ (vs : List ℕ) where
-  heard-of : eightOf (heard Form.Hexed 0 spec.zero (some vs)) ≡ eightOf (choose (leb (length vs) 8) (Groups.Are (length vs) (pushAll Form.Hexed spec.zero vs)) Groups.None)
+-- what was heard, where so many are wanted
+module _ {m : ℕ} (top : m ≤ 8) where
+  abbrev one-two : List ℕ → Bool → Groups
+  one-two vs u = choose u (Groups.Are (0 + length vs) (pushAll Form.Hexed spec.zero vs)) Groups.None
+
+  only-these : (vs : List ℕ) → length vs ≡ m → onlyOf m (heard Form.Hexed 0 spec.zero (some vs)) ≡ heard Form.Hexed 0 spec.zero (some vs)
   unfolding heard
-  heard-of = ap (λ n. eightOf (choose (leb n 8) (Groups.Are n (pushAll Form.Hexed spec.zero vs)) Groups.None)) (zero-add (length vs))
+  only-these vs e =
+      let k : Groups.Are (0 + length vs) (pushAll Form.Hexed spec.zero vs) ≡ heard Form.Hexed 0 spec.zero (some vs) = first Groups.None (le-leb (0 + length vs) 8 (omega (arith, e))) refl in
+      sym (only-is m (sym k) (zero-add (length vs) ∙ e)) ∙ k
 
-  heard-these : length vs ≡ 8 → AllLt 65536 vs → eightOf (heard Form.Hexed 0 spec.zero (some vs)) ≡ asAddress (some vs)
-  heard-these e s =
-      heard-of
-      ∙ sym (eight-is (sym (first Groups.None (le-leb (length vs) 8 (omega (arith, e))) refl)) e)
-      ∙ ap (λ w. Address.Is (w .high) (w .low)) (eight-halves vs e s)
-
-  heard-others : (length vs ≡ 8 → ⊥) → eightOf (heard Form.Hexed 0 spec.zero (some vs)) ≡ Address.None
-  unfolding eightOf choose
-  heard-others e = heard-of ∙ go (leb (length vs) 8)
+  only-others : (vs : List ℕ) → (length vs ≡ m → ⊥) → onlyOf m (heard Form.Hexed 0 spec.zero (some vs)) ≡ Groups.None
+  unfolding heard onlyOf choose
+  only-others vs f = go (leb (0 + length vs) 8)
     where
-      go : (u : Bool) → eightOf (choose u (Groups.Are (length vs) (pushAll Form.Hexed spec.zero vs)) Groups.None) ≡ Address.None
-      go true = sym (second _ (ne-eqb _ _ e) refl)
+      go : (u : Bool) → onlyOf m (one-two vs u) ≡ Groups.None
+      go true = sym (second _ (ne-eqb _ _ (λ e. f (sym (zero-add (length vs)) ∙ e))) refl)
       go false = refl
 
-pub heard-eight : (o : Option (List ℕ)) → Below 65536 o → eightOf (heard Form.Hexed 0 spec.zero o) ≡ asAddress (exactly 8 o)
-unfolding heard eightOf exactly
-heard-eight none s = refl
-heard-eight (some vs) s = elim (ℕ-discrete (length vs) 8) [
-  | yes e ↦ heard-these vs e s ∙ ap asAddress (first none (eq-eqb _ _ e) refl)
-  | no f ↦ heard-others vs f ∙ ap asAddress (second (some vs) (ne-eqb _ _ f) refl)
-]
+  only-heard : (o : Option (List ℕ)) → onlyOf m (heard Form.Hexed 0 spec.zero o) ≡ heard Form.Hexed 0 spec.zero (exactly m o)
+  unfolding heard onlyOf exactly
+  only-heard none = refl
+  only-heard (some vs) = elim (ℕ-discrete (length vs) m) [
+    | yes e ↦ only-these vs e ∙ ap (heard Form.Hexed 0 spec.zero) (first none (eq-eqb _ _ e) refl)
+    | no f ↦ only-others vs f ∙ ap (heard Form.Hexed 0 spec.zero) (second (some vs) (ne-eqb _ _ f) refl)
+  ]
 
--- the groups on both sides with the zeros between them
-abbrev together : List ℕ → List ℕ → List ℕ
-together vs ws = vs ++ replicate (8 - (length vs + length ws)) 0 ++ ws
+  module _ (t : List ℕ) {at : ℕ} (ha : at ≡ gap t) where
+    pub groups-short : {r : Groups} → at < length t → r ≡ heard Form.Hexed 0 spec.zero (filled m (sideOf (take at t)) (sideOf (drop (at + 2) t))) → r ≡ heard Form.Hexed 0 spec.zero (groupsIn m t)
+    unfolding groupsIn
+    groups-short h hr = rw (← ha) (hr ∙ ap (heard Form.Hexed 0 spec.zero) (first _ (lt-ltb _ _ h) refl))
 
-together-eight : (vs ws : List ℕ) → length vs + length ws ≤ 7 → length (together vs ws) ≡ 8
-together-eight vs ws h =
-    let n : ℕ = 8 - (length vs + length ws) in
-    omega (arith, length-append (vs ++ replicate n 0) ws, length-append vs (replicate n 0), length-replicate {A = ℕ} n 0)
+    pub groups-full : {g r : Groups} → length t ≤ at → g ≡ heard Form.Hexed 0 spec.zero (valuesOf Form.Hexed (parts 58 t)) → r ≡ onlyOf m g → r ≡ heard Form.Hexed 0 spec.zero (groupsIn m t)
+    unfolding groupsIn
+    groups-full h hg hr =
+        rw (← ha) (hr ∙ ap (onlyOf m) hg ∙ only-heard (valuesOf Form.Hexed (parts 58 t)) ∙ ap (heard Form.Hexed 0 spec.zero) (second _ (le-ltb _ _ h) refl))
 
--- a `::` makes eight groups, or none
-pub filled-eight : (L R : Option (List ℕ)) → exactly 8 (filled L R) ≡ filled L R
-unfolding exactly filled choose
-filled-eight none R = refl
-filled-eight (some vs) none = refl
-filled-eight (some vs) (some ws) = go (leb (length vs + length ws) 7) refl
-  where
-    go : (u : Bool) → leb (length vs + length ws) 7 ≡ u → exactly 8 (choose u (some (together vs ws)) none) ≡ choose u (some (together vs ws)) none
-    go true e = sym (first none (eq-eqb (length (together vs ws)) 8 (together-eight vs ws (leb-true _ _ e))) refl)
-    go false e = refl
+pub gap-room : (t : List ℕ) {at : ℕ} → at ≡ gap t → at < length t → at + 2 ≤ length t
+gap-room t ha h = subst (λ n. n + 2 ≤ length t) (sym ha) (gap-whole t (subst (λ n. n < length t) ha h))
 
-module _ (t : List ℕ) {at : ℕ} (ha : at ≡ gap t) where
-  pub wide-short : {g : Groups} {r : Address} → at < length t → g ≡ heard Form.Hexed 0 spec.zero (filled (sideOf (take at t)) (sideOf (drop (at + 2) t))) → r ≡ eightOf g → r ≡ wideOf t
-  unfolding wideOf groupsOf
-  wide-short h hg hr = rw (← ha)
-      (hr
-      ∙ ap eightOf hg
-      ∙ heard-eight (filled (sideOf (take at t)) (sideOf (drop (at + 2) t))) (filled-below (sideOf (take at t)) (sideOf (drop (at + 2) t)) (side-below (take at t)) (side-below (drop (at + 2) t)))
-      ∙ ap asAddress (filled-eight (sideOf (take at t)) (sideOf (drop (at + 2) t)) ∙ first _ (lt-ltb _ _ h) refl))
+-- so many groups are read, each of 16 bits
+module _ (m : ℕ) where
+  abbrev Sized : Option (List ℕ) → Type 0
+  Sized (some vs) = length vs ≡ m
+  Sized none = Unit {0}
 
-  pub wide-full : {g : Groups} {r : Address} → length t ≤ at → g ≡ heard Form.Hexed 0 spec.zero (valuesOf Form.Hexed (parts 58 t)) → r ≡ eightOf g → r ≡ wideOf t
-  unfolding wideOf groupsOf
-  wide-full h hg hr = rw (← ha)
-      (hr ∙ ap eightOf hg ∙ heard-eight (valuesOf Form.Hexed (parts 58 t)) (values-below Form.Hexed (parts 58 t)) ∙ ap asAddress (second _ (le-ltb _ _ h) refl))
+  exactly-all : (r : ℕ) (o : Option (List ℕ)) → Below r o → Sized (exactly m o) × Below r (exactly m o)
+  unfolding exactly choose
+  exactly-all r none h = (tt, tt)
+  exactly-all r (some vs) h = go (eqb (length vs) m) refl
+    where
+      go : (u : Bool) → eqb (length vs) m ≡ u → Sized (choose u (some vs) none) × Below r (choose u (some vs) none)
+      go true e = (eqb-true _ _ e, h)
+      go false e = (tt, tt)
 
-  pub wide-room : at < length t → at + 2 ≤ length t
-  wide-room h = subst (λ n. n + 2 ≤ length t) (sym ha) (gap-whole t (subst (λ n. n < length t) ha h))
+  pub exactly-sized : (r : ℕ) (o : Option (List ℕ)) → Below r o → {vs : List ℕ} → exactly m o ≡ some vs → length vs ≡ m
+  exactly-sized r o h e = subst Sized e (exactly-all r o h .0)
+
+  pub exactly-below : (r : ℕ) (o : Option (List ℕ)) → Below r o → {vs : List ℕ} → exactly m o ≡ some vs → AllLt r vs
+  exactly-below r o h e = subst (Below r) e (exactly-all r o h .1)
+
+  filled-sized : (L R : Option (List ℕ)) → Sized (filled m L R)
+  unfolding filled choose
+  filled-sized none R = tt
+  filled-sized (some vs) none = tt
+  filled-sized (some vs) (some ws) = go (ltb (length vs + length ws) m) refl
+    where
+      zs : List ℕ
+      zs = replicate (m - (length vs + length ws)) 0
+
+      go : (u : Bool) → ltb (length vs + length ws) m ≡ u → Sized (choose u (some (vs ++ zs ++ ws)) none)
+      go true e =
+          let h : length vs + length ws < m = ltb-true _ _ e in
+          omega (arith, length-append (vs ++ zs) ws, length-append vs zs, length-replicate {A = ℕ} (m - (length vs + length ws)) 0)
+      go false e = tt
+
+  groups-all : (t : List ℕ) → Sized (groupsIn m t) × Below 65536 (groupsIn m t)
+  unfolding groupsIn choose
+  groups-all t = go (ltb (gap t) (length t))
+    where
+      L : Option (List ℕ)
+      L = sideOf (take (gap t) t)
+
+      R : Option (List ℕ)
+      R = sideOf (drop (gap t + 2) t)
+
+      all : Option (List ℕ)
+      all = valuesOf Form.Hexed (parts 58 t)
+
+      go : (u : Bool) → Sized (choose u (filled m L R) (exactly m all)) × Below 65536 (choose u (filled m L R) (exactly m all))
+      go true = (filled-sized L R, filled-below m L R (side-below (take (gap t) t)) (side-below (drop (gap t + 2) t)))
+      go false = exactly-all 65536 all (values-below Form.Hexed (parts 58 t))
+
+  pub groups-sized : (t : List ℕ) {vs : List ℕ} → groupsIn m t ≡ some vs → length vs ≡ m
+  groups-sized t e = subst Sized e (groups-all t .0)
+
+  pub groups-below : (t : List ℕ) {vs : List ℕ} → groupsIn m t ≡ some vs → AllLt 65536 vs
+  groups-below t e = subst (Below 65536) e (groups-all t .1)
 
 -- a dotted quad from what was heard
 all-four : (a b c d : ℕ) → AllLt 256 (a ∷ b ∷ c ∷ d ∷ []) → pushAll Form.Dotted spec.zero (a ∷ b ∷ c ∷ d ∷ []) .low ≡ valueOf 256 (a ∷ b ∷ c ∷ d ∷ [])

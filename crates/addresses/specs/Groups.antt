@@ -12,7 +12,6 @@ use Rattle.numbers.specs.Digits.{choose, numberOf}
 use Rattle.addresses.specs.declared.Form.{Form}
 use Rattle.addresses.specs.declared.Wide.{Wide}
 use Rattle.addresses.specs.declared.Groups.{Groups}
-use Rattle.addresses.specs.declared.Address.{Address}
 
 abbrev pub separatorOf : Form → ℕ
 separatorOf Form.Dotted = 46
@@ -61,9 +60,10 @@ unfoldable pub heard : Form → ℕ → Wide → Option (List ℕ) → Groups
 heard form n w (some vs) = choose (leb (n + length vs) 8) (Groups.Are (n + length vs) (pushAll form w vs)) Groups.None
 heard form n w none = Groups.None
 
-unfoldable pub eightOf : Groups → Address
-eightOf (Groups.Are n w) = choose (eqb n 8) (Address.Is (w .high) (w .low)) Address.None
-eightOf Groups.None = Address.None
+-- the groups where there are n of them
+unfoldable pub onlyOf : ℕ → Groups → Groups
+onlyOf n (Groups.Are c w) = choose (eqb c n) (Groups.Are c w) Groups.None
+onlyOf n Groups.None = Groups.None
 
 abbrev pub zero : Wide
 zero = record { high = 0; low = 0 }

@@ -4,8 +4,8 @@ use numbers::Number;
 ghost use mathlib.Core.Path.{_≡_};
 ghost use Prim.Native.Nat.{_+_, _-_, _≤_, _<_};
 ghost use lib.ListN.{length, take, drop, replicate};
-ghost use Rattle.addresses.specs.Groups.{separatorOf, shortOf, groupOf, parts, valuesOf, pushOf, pushAll, heard, zero, eightOf};
-ghost use Rattle.addresses.specs.Addresses.{quadOf, gap, sideOf, filled, wideOf};
+ghost use Rattle.addresses.specs.Groups.{separatorOf, shortOf, groupOf, parts, valuesOf, pushOf, pushAll, heard, zero, onlyOf};
+ghost use Rattle.addresses.specs.Addresses.{quadOf, gap, sideOf, filled, groupsIn, frontOf, wideOf, wholeOf, endOf, halfOf, bothOf};
 
 // How an address is written: octets between dots, or groups of hex digits between colons.
 pub enum Form {
@@ -129,22 +129,19 @@ pub fn ipv4(t: &[u8]) -> Quad
     }
 }
 
-// An address of eight groups.
-fn eight(groups: Groups) -> Address
-    ensures { λ r. ⌜ r ≡ eightOf groups ⌝ }
+// Groups, where there are so many.
+fn only(groups: Groups, whole: usize) -> Groups
+    ensures { λ r. ⌜ r ≡ onlyOf whole groups ⌝ }
 {
     match groups {
         Groups::Are { count, wide } => {
-            if count == 8 {
-                Address::Is {
-                    high: wide.high,
-                    low: wide.low,
-                }
+            if count == whole {
+                Groups::Are { count, wide }
             } else {
-                Address::None
+                Groups::None
             }
         }
-        Groups::None => Address::None,
+        Groups::None => Groups::None,
     }
 }
 
@@ -186,10 +183,11 @@ fn zeros(wide: Wide, count: usize) -> Wide
     w
 }
 
-// An address with a `::` at a place. What stands behind it is read twice: how many groups it has says how many are zero.
-fn shortened(t: &[u8], at: usize) -> Groups
+// So many groups with a `::` at a place. What stands behind it is read twice: how many groups it has says how many are zero.
+fn shortened(t: &[u8], at: usize, whole: usize) -> Groups
     requires { ⌜ at + 2 ≤ length (now t) ⌝ }
-    ensures { λ r. ⌜ r ≡ heard Form.Hexed 0 zero (filled (sideOf (take at (now (t .entry)))) (sideOf (drop (at + 2) (now (t .entry))))) ⌝ }
+    requires { ⌜ whole ≤ 8 ⌝ }
+    ensures { λ r. ⌜ r ≡ heard Form.Hexed 0 zero (filled whole (sideOf (take at (now (t .entry)))) (sideOf (drop (at + 2) (now (t .entry))))) ⌝ }
 {
     let Groups::Are { count, wide } = side(&t[..at], 0, Wide { high: 0, low: 0 }) else {
         return Groups::None;
@@ -201,19 +199,100 @@ fn shortened(t: &[u8], at: usize) -> Groups
     else {
         return Groups::None;
     };
-    if 7 < count + right {
+    if whole <= count + right {
         return Groups::None;
     }
-    let filled = zeros(wide, 8 - (count + right));
-    side(&t[at + 2..], 8 - right, filled)
+    let filled = zeros(wide, whole - (count + right));
+    side(&t[at + 2..], whole - right, filled)
+}
+
+// So many groups, or fewer with one `::`.
+fn groups_in(t: &[u8], whole: usize) -> Groups
+    requires { ⌜ whole ≤ 8 ⌝ }
+    ensures { λ r. ⌜ r ≡ heard Form.Hexed 0 zero (groupsIn whole (now (t .entry))) ⌝ }
+{
+    let at = gap_at(t);
+    if at < t.len() {
+        return shortened(t, at, whole);
+    }
+    only(joined(t, Form::Hexed, 0, Wide { high: 0, low: 0 }), whole)
+}
+
+// A number less another, or 0.
+fn less(n: usize, k: usize) -> usize
+    ensures { λ r. ⌜ r ≡ n - k ⌝ }
+{
+    if k <= n { n - k } else { 0 }
+}
+
+// Where the groups end before a quad that starts at a place.
+fn front(t: &[u8], at: usize) -> usize
+    ensures { λ r. ⌜ r ≡ frontOf (now (t .entry)) at ⌝ }
+{
+    if chars::byte_at(t, less(at, 2)) == 58 {
+        at
+    } else {
+        less(at, 1)
+    }
+}
+
+// The quad from a place on. No text under seven bytes is one, so that most addresses are done here.
+fn quad_behind(t: &[u8], at: usize) -> Quad
+    requires { ⌜ at ≤ length (now t) ⌝ }
+    ensures { λ r. ⌜ r ≡ quadOf (drop at (now (t .entry))) ⌝ }
+{
+    if t.len() - at < 7 {
+        return Quad::None;
+    }
+    ipv4(&t[at..])
+}
+
+// How many groups stand before a quad, or without one.
+fn whole_with(quad: Quad) -> usize
+    ensures { λ r. ⌜ r ≡ wholeOf quad ⌝ }
+{
+    match quad {
+        Quad::Is(_) => 6,
+        Quad::None => 8,
+    }
+}
+
+fn end_with(t: &[u8], at: usize, quad: Quad) -> usize
+    ensures { λ r. ⌜ r ≡ endOf (now (t .entry)) at quad ⌝ }
+{
+    match quad {
+        Quad::Is(_) => front(t, at),
+        Quad::None => t.len(),
+    }
+}
+
+// Groups and the quad behind them, whose halves are two groups more.
+fn both(wide: Wide, quad: Quad) -> Address
+    requires { ⌜ halfOf quad < 65536 ⌝ }
+    ensures { λ r. ⌜ r ≡ bothOf wide quad ⌝ }
+{
+    let Quad::Is(q) = quad else {
+        return Address::Is {
+            high: wide.high,
+            low: wide.low,
+        };
+    };
+    let seven = push(Form::Hexed, wide, q / 65536);
+    let eight = push(Form::Hexed, seven, q % 65536);
+    Address::Is {
+        high: eight.high,
+        low: eight.low,
+    }
 }
 
 pub fn ipv6(t: &[u8]) -> Address
     ensures { λ r. ⌜ r ≡ wideOf (now (t .entry)) ⌝ }
 {
-    let at = gap_at(t);
-    if at < t.len() {
-        return eight(shortened(t, at));
-    }
-    eight(joined(t, Form::Hexed, 0, Wide { high: 0, low: 0 }))
+    let at = chars::behind_last(t, t.len(), 58);
+    let quad = quad_behind(t, at);
+    let end = end_with(t, at, quad);
+    let Groups::Are { count: _, wide } = groups_in(&t[..end], whole_with(quad)) else {
+        return Address::None;
+    };
+    both(wide, quad)
 }

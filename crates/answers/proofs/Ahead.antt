@@ -24,7 +24,7 @@ use Rattle.tokens.specs.declared.Step.{Step}
 use Rattle.tokens.specs.declared.Step.the-variants.{Taken, Refused}
 use Rattle.tokens.specs.Words.{Entry, twoSigns, oneSigns, keywords, wordIn, twoSign, oneSign, nameWord}
 use Rattle.tokens.specs.Blanks.{skipAll}
-use Rattle.tokens.specs.Rules.{whenFit, signFit, thenFit, pairAt, ipv6At, periodAt, ipv4At, twoAt, oneAt, asAt, hexAt, fractionAt, numberAt, goesOn, escapes, quoteAt, isNameStart, nameAt, taken, refused, orElse, tokenAt}
+use Rattle.tokens.specs.Rules.{whenFit, signFit, thenFit, pairAt, colonsAt, fractionAt, dottedAt, threeAt, decimalGroup, orTo, ipv6At, periodAt, ipv4At, twoAt, oneAt, asAt, hexAt, numberAt, goesOn, escapes, quoteAt, isNameStart, nameAt, taken, refused, orElse, tokenAt}
 use Rattle.tokens.specs.Tokens.{stepAt}
 use Rattle.strings.specs.declared.Size.{Size}
 use Rattle.strings.specs.Strings.{codesFrom}
@@ -177,6 +177,10 @@ module _ (s : List ℕ) where
   goes-then g h (goes-to {e = e} l m p w) k = k e (omega arith) m
   goes-then g h goes-no k = goes-no
 
+  goes-from : {at a : ℕ} {f : Fit} → at ≤ a → Goes a f → Goes at f
+  goes-from h (goes-to {e = e} l m p w) = goes-to {e = e} (omega arith) m p w
+  goes-from h goes-no = goes-no
+
   goes-period : (at : ℕ) → Goes at (periodAt s at)
   unfolding periodAt
   goes-period at =
@@ -195,19 +199,43 @@ module _ (s : List ℕ) where
       let k = past-ge (isClass Digit) s c in
       goes-to (omega arith) (past-le (isClass Digit) s c m″) (omega arith) (omega arith)
 
-  module _ (at : ℕ) (in-at : at < length s) where
-    goes-ipv6 : Goes at (ipv6At s at)
-    unfolding ipv6At
-    goes-ipv6 =
-        let a : ℕ = pastRun (isClass HexDigit) s at in
-        let b : ℕ = pastRun (isClass HexDigit) s (a + 1) in
-        goes-when (eqb (byteAt s a) 58 && eqb (byteAt s b) 58) 1 (omega arith) λ e.
-        let h = byte-inside b 58 refl (right-true (eqb (byteAt s a) 58) (eqb (byteAt s b) 58) e) in
-        let k = past-ge (isClass HexDigit) s at in
-        let l = past-ge (isClass HexDigit) s (a + 1) in
-        let m = past-ge (isClass HexColon) s (b + 1) in
-        (omega arith, past-le (isClass HexColon) s (b + 1) (omega arith), omega arith)
+  goes-dotted : (at : ℕ) → Goes at (dottedAt s at)
+  unfolding dottedAt fractionAt
+  goes-dotted at =
+      goes-when (fractionAt s at) 1 (omega arith) λ q.
+      let h = byte-inside at 46 refl (left-true (eqb (byteAt s at) 46) (isDigit (byteAt s (at + 1))) q) in
+      let k = past-ge (isClass Digit) s (at + 1) in
+      (omega arith, past-le (isClass Digit) s (at + 1) (omega arith), omega arith)
 
+  goes-three : (at a : ℕ) → at ≤ a → Goes at (threeAt s a)
+  unfolding threeAt
+  goes-three at a h =
+      goes-then _ h (goes-dotted a) λ b k m.
+      goes-then _ (omega arith) (goes-dotted b) λ c k′ m′. goes-from (omega arith) (goes-dotted c)
+
+  goes-ending : {at e : ℕ} (t : Bool) (f : Fit) → at < e → e ≤ length s → Goes at f → Goes at (orTo (pick t f No) e)
+  unfolding orTo
+  goes-ending true (To r w) h k (goes-to l m p v) = goes-to {w = 1} l m (omega arith) (omega arith)
+  goes-ending true No h k goes-no = goes-to {w = 1} h k (omega arith) (omega arith)
+  goes-ending false f h k g = goes-to {w = 1} h k (omega arith) (omega arith)
+
+  goes-colons : (at : ℕ) → Goes at (colonsAt s at)
+  unfolding colonsAt
+  goes-colons at =
+      let a : ℕ = pastRun (isClass HexDigit) s at in
+      let b : ℕ = pastRun (isClass HexDigit) s (a + 1) in
+      goes-when (eqb (byteAt s a) 58 && eqb (byteAt s b) 58) 1 (omega arith) λ e.
+      let h = byte-inside b 58 refl (right-true (eqb (byteAt s a) 58) (eqb (byteAt s b) 58) e) in
+      let k = past-ge (isClass HexDigit) s at in
+      let l = past-ge (isClass HexDigit) s (a + 1) in
+      let m = past-ge (isClass HexColon) s (b + 1) in
+      (omega arith, past-le (isClass HexColon) s (b + 1) (omega arith), omega arith)
+
+  goes-ipv6 : (at : ℕ) → Goes at (ipv6At s at)
+  unfolding ipv6At
+  goes-ipv6 at = goes-then _ (omega arith) (goes-colons at) λ e h k. goes-ending (decimalGroup s e) (threeAt s e) h k (goes-three at e (omega arith))
+
+  module _ (at : ℕ) (in-at : at < length s) where
     goes-two : Goes at (twoAt s at)
     unfolding twoAt signFit
     goes-two =
@@ -309,7 +337,7 @@ module _ (s : List ℕ) where
   steps-at : (at : ℕ) → at < length s → Steps at (tokenAt s at)
   unfolding tokenAt refused
   steps-at at h =
-      steps-or (goes-ipv6 at h)
+      steps-or (goes-ipv6 at)
       (steps-or (goes-ipv4 at)
       (steps-or (goes-two at h)
       (steps-or (goes-one at h)

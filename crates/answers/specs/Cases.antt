@@ -1,4 +1,4 @@
--- Document 01's worked pairs 1 to 12, two of them as document 02 changes them, and texts that tell the grammar from others, as tables: entry, source, answer, rows.
+-- Document 01's worked pairs 1 to 12, three of them as document 02 changes them, and texts that tell the grammar from others, as tables: entry, source, answer, rows.
 use mathlib.Core.List.{List, [], _∷_, _++_}
 use mathlib.Core.Bool.{Bool, true, false}
 use Prim.Native.Nat.{ℕ, _+_, _-_, _*_}
@@ -71,8 +71,8 @@ worked =
     expr-fails "1.2.3." 7 0 6 ∷
     -- 7
     expr-has "::1" (row 15 0 3 0 0 1 ∷ []) ∷
-    -- 8
-    expr-fails "::ffff:1.2.3.4" 6 9 12 ∷
+    -- 8, by C-16: "one row of kind 15"
+    expr-has "::ffff:1.2.3.4" (row 15 0 14 0 0 281470698652420 ∷ []) ∷
     -- 9
     expr-fails "\"a\"" 4 0 1 ∷
     expr-has "\"a\" " (row 16 0 3 0 0 0 ∷ []) ∷

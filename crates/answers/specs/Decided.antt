@@ -169,6 +169,25 @@ decided =
     expr-fails "{a:b:c}" 7 1 6 ∷
     tree-fails "const A:b::c=1;" 6 6 12 ∷
     expr-has "{a:b::1}" (row 15 1 7 0 2814797011746816 1 ∷ row 35 0 8 1 1 0 ∷ []) ∷
+    -- a dotted end: digits behind each of three periods, behind a last group of digits only, and whatever its value says
+    expr-fails "::1.2" 6 4 5 ∷
+    expr-fails "::1.2.3." 6 4 7 ∷
+    expr-fails "::a1.2.3.4" 6 5 8 ∷
+    expr-fails "::.1.2.3" 6 3 6 ∷
+    expr-fails ":1.2.3.4" 6 0 1 ∷
+    expr-fails "::256.0.0.0" 7 0 11 ∷
+    expr-fails "::12345.1.1.1" 7 0 13 ∷
+    expr-fails "::01.2.3.4" 7 0 10 ∷
+    expr-fails "a:1:1.2.3.4" 7 0 11 ∷
+    -- six groups before it, or five at most beside a `::`
+    expr-has "1:2:3:4:5::7.8.9.10" (row 15 0 19 0 281483566841860 1407375001520394 ∷ []) ∷
+    expr-fails "1:2:3:4:5:6::7.8.9.10" 7 0 21 ∷
+    expr-fails "1:2:3:4:5:7.8.9.10" 7 0 18 ∷
+    -- nothing of it behind the fourth number
+    expr-fails "::1.2.3.4.5" 6 10 11 ∷
+    expr-fails "::1.2.3.4a" 6 9 10 ∷
+    expr-has "::1.2.3.4.a" (row 15 0 9 0 0 16909060 ∷ row 1 10 11 0 0 0 ∷ row 24 0 11 2 0 0 ∷ []) ∷
+    expr-fails "::1.2.3.4:5" 6 9 10 ∷
     -- statements
     expr-has "{if a {} (b)}" (row 1 4 5 0 0 0 ∷ row 2 4 5 1 0 0 ∷ row 35 6 8 0 0 0 ∷ row 28 1 8 2 0 0 ∷ row 1 10 11 0 0 0 ∷ row 2 10 11 1 0 0 ∷
     row 35 0 13 2 1 0 ∷ []) ∷

@@ -9,11 +9,12 @@ use native.Mathlib.Decide.{decLt}
 use native.Mathlib.Omega.{arith}
 use lib.ListN.{length, getD, drop, length-drop, drop-of-length-le}
 use lib.Seq.{drop-cons, getD-drop}
-use borrow.Author.Tests.{le-ltb, lt-ltb}
+use lib.Dec.{eqb}
+use borrow.Author.Tests.{le-ltb, lt-ltb, eq-eqb, ne-eqb, eqb-true}
 use Rattle.chars.specs.declared.Class.{Class}
 use Rattle.chars.specs.declared.Class.the-variants.{Ascii, Blank, Line, Digit, Figure, HexDigit, HexColon, NamePart}
 use Rattle.chars.specs.Chars.{byteAt, isClass}
-use Rattle.chars.specs.Runs.{span, pastSpan, pastRun}
+use Rattle.chars.specs.Runs.{span, pastSpan, pastRun, behindLast}
 
 pub byte-in : (s : List ℕ) (i : ℕ) → i < length s → byteAt s i ≡ getD s i 0
 unfolding byteAt
@@ -155,3 +156,48 @@ module _ (k : Class) (s : List ℕ) (i : ℕ) {b : ℕ} {t : Bool} (at-i : b ≡
 
   pub turn-done : t ≡ false → i ≡ pastRun (isClass k) s i
   turn-done e = sym (past-done (isClass k) (outside k) s i (said e))
+
+-- a turn of the loop of `behind_last`, which reads the byte b before the place i
+module _ (c : ℕ) (s : List ℕ) (i : ℕ) where
+  pub last-none : i ≤ 0 → 0 ≡ behindLast c s i
+  unfolding behindLast
+  last-none h = let e : i ≡ 0 = omega arith in sym (ap (behindLast c s) e)
+
+  module _ (h : 0 < i) {b : ℕ} (read : b ≡ byteAt s (i - 1)) where
+    before-this : behindLast c s i ≡ behindLast c s (suc (i - 1))
+    before-this = let e : i ≡ suc (i - 1) = omega arith in ap (behindLast c s) e
+
+    pub last-here : b ≡ c → i ≡ behindLast c s i
+    unfolding behindLast
+    last-here e =
+        let q : i ≡ suc (i - 1) = omega arith in
+        q
+        ∙ subst (λ (u : Bool). _≡_ {A = ℕ} (suc (i - 1)) (elim u [ true ↦ suc (i - 1) | false ↦ behindLast c s (i - 1) ])) (sym (eq-eqb (byteAt s (i - 1)) c (sym read ∙ e))) refl
+        ∙ sym before-this
+
+    pub last-back : (b ≡ c → ⊥) → behindLast c s (i - 1) ≡ behindLast c s i
+    unfolding behindLast
+    last-back e =
+        subst (λ (u : Bool). _≡_ {A = ℕ} (behindLast c s (i - 1)) (elim u [ true ↦ suc (i - 1) | false ↦ behindLast c s (i - 1) ])) (sym (ne-eqb (byteAt s (i - 1)) c (λ f. e (read ∙ f)))) refl
+        ∙ sym before-this
+
+pub last-le : (c : ℕ) (s : List ℕ) (n : ℕ) → behindLast c s n ≤ n
+unfolding behindLast
+last-le c s zero = zero-le
+last-le c s (suc i) = go (eqb (byteAt s i) c) (last-le c s i)
+  where
+    go : (u : Bool) → behindLast c s i ≤ i → elim u [ true ↦ suc i | false ↦ behindLast c s i ] ≤ suc i
+    go true h = omega arith
+    go false h = omega arith
+
+-- before that place stands the byte
+pub last-stands : (c : ℕ) (s : List ℕ) (n : ℕ) → 0 < behindLast c s n → byteAt s (behindLast c s n - 1) ≡ c
+unfolding behindLast
+last-stands c s zero h = absurd (omega (arith, h))
+last-stands c s (suc i) h = go (eqb (byteAt s i) c) refl h (last-stands c s i)
+  where
+    go : (u : Bool) → eqb (byteAt s i) c ≡ u → 0 < elim u [ true ↦ suc i | false ↦ behindLast c s i ]
+        → (0 < behindLast c s i → byteAt s (behindLast c s i - 1) ≡ c)
+        → byteAt s (elim u [ true ↦ suc i | false ↦ behindLast c s i ] - 1) ≡ c
+    go true e k ih = let n : suc i - 1 ≡ i = omega arith in ap (byteAt s) n ∙ eqb-true _ _ e
+    go false e k ih = ih k

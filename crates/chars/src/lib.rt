@@ -1,7 +1,7 @@
 // The bytes of a source, their classes, and how far a run of one class reaches.
 ghost use mathlib.Core.Path.{_≡_};
 ghost use Rattle.chars.specs.Chars.{isBlank, isDigit, isHexDigit, isLetter, isClass, byteAt};
-ghost use Rattle.chars.specs.Runs.{pastRun};
+ghost use Rattle.chars.specs.Runs.{pastRun, behindLast};
 
 // The classes of bytes that runs are made of.
 pub enum Class {
@@ -70,4 +70,18 @@ pub fn past(s: &[u8], at: usize, k: Class) -> usize
         i += 1;
     }
     i
+}
+
+// The place behind the last byte of a kind before an end, or 0.
+pub fn behind_last(s: &[u8], end: usize, c: u16) -> usize
+    ensures { λ r. ⌜ r ≡ behindLast c (now (s .entry)) end ⌝ }
+{
+    let mut i = end;
+    while 0 < i {
+        if byte_at(s, i - 1) == c {
+            return i;
+        }
+        i -= 1;
+    }
+    0
 }

@@ -9,16 +9,17 @@ use lib.ListN.{length, getD}
 use lib.Dec.{eqb}
 use borrow.Author.Tests.{lt-ltb, le-ltb, ne-eqb, eqb-true}
 use Rattle.chars.specs.declared.Class.the-variants.{Line, Digit, Figure, HexDigit, HexColon, NamePart}
-use Rattle.chars.specs.Chars.{byteAt, isClass, isDigit}
+use Rattle.chars.specs.Chars.{pick, byteAt, isClass, isDigit}
 use Rattle.chars.specs.Texts.{same}
-use Rattle.chars.specs.Runs.{pastSpan, pastRun}
+use Rattle.chars.specs.Runs.{pastSpan, pastRun, behindLast}
 use Rattle.chars.proofs.Runs.{byte-in, byte-out, inside, within, span-more, span-done}
+use Rattle.tokens.specs.declared.Fit.{Fit}
 use Rattle.tokens.specs.declared.Fit.the-variants.{To, No}
 use Rattle.tokens.specs.Words.{twoSign, twoSigns, oneSign, oneSigns, wordIn, codeOf}
 use Rattle.tokens.specs.Blanks.{pastComment}
-use Rattle.tokens.specs.Rules.{ipv6At, periodAt, fractionAt, numberAt, twoAt, oneAt, goesOn, escapes, quoteAt}
+use Rattle.tokens.specs.Rules.{colonsAt, fractionAt, dottedAt, threeAt, decimalGroup, orTo, ipv6At, periodAt, numberAt, twoAt, oneAt, goesOn, escapes, quoteAt}
 use Rattle.tokens.proofs.Pairs.{fst}
-use Rattle.tokens.proofs.Fits.{both, not-first, not-second, fails-second, byte-is, byte-isn't, fits, fails, no-sign, first, second}
+use Rattle.tokens.proofs.Fits.{so, both, not-first, not-second, fails-second, byte-is, byte-isn't, fits, fails, no-sign, goes-on, ends, first, second}
 use Rattle.tokens.proofs.Tables.{no-first}
 
 one-none : oneSign 256 ≡ 0
@@ -36,20 +37,67 @@ module _ (s : List ℕ) (at : ℕ) where
     unfolding pastComment
     line-off h = rw (← to) (second _ (le-ltb _ _ h) refl)
 
-  -- 1. IPv6
+  -- 1. IPv6: hex digits and colons
   module _ {a x : ℕ} (to : a ≡ pastRun (isClass HexDigit) s at) (read : x ≡ byteAt s a) where
-    pub ipv6-first : (x ≡ 58 → ⊥) → No ≡ ipv6At s at
-    unfolding ipv6At
-    ipv6-first h = rw (← to) (fails _ _ (not-first _ (byte-isn't s a read h)))
+    pub colons-first : (x ≡ 58 → ⊥) → No ≡ colonsAt s at
+    unfolding colonsAt
+    colons-first h = rw (← to) (fails _ _ (not-first _ (byte-isn't s a read h)))
 
     module _ {b y : ℕ} (colon : x ≡ 58) (on : b ≡ pastRun (isClass HexDigit) s (a + 1)) (next : y ≡ byteAt s b) where
-      pub ipv6-second : (y ≡ 58 → ⊥) → No ≡ ipv6At s at
-      unfolding ipv6At
-      ipv6-second h = rw (← to, ← on) (fails-second (eqb (byteAt s a) 58) _ _ (byte-isn't s b next h))
+      pub colons-second : (y ≡ 58 → ⊥) → No ≡ colonsAt s at
+      unfolding colonsAt
+      colons-second h = rw (← to, ← on) (fails-second (eqb (byteAt s a) 58) _ _ (byte-isn't s b next h))
 
-      pub ipv6-fits : {r : ℕ} → y ≡ 58 → r ≡ pastRun (isClass HexColon) s (b + 1) → To r 1 ≡ ipv6At s at
-      unfolding ipv6At
-      ipv6-fits h g = rw (← to, ← on) (fits (both (byte-is s a read colon) (byte-is s b next h)) g refl)
+      pub colons-fit : {r : ℕ} → y ≡ 58 → r ≡ pastRun (isClass HexColon) s (b + 1) → To r 1 ≡ colonsAt s at
+      unfolding colonsAt
+      colons-fit h g = rw (← to, ← on) (fits (both (byte-is s a read colon) (byte-is s b next h)) g refl)
+
+  -- a period with digits
+  pub dotted-fits : {r : ℕ} → fractionAt s at ≡ true → r ≡ pastRun (isClass Digit) s (at + 1) → To r 1 ≡ dottedAt s at
+  unfolding dottedAt
+  dotted-fits h e = fits h e refl
+
+  pub dotted-fails : fractionAt s at ≡ false → No ≡ dottedAt s at
+  unfolding dottedAt
+  dotted-fails h = fails _ _ h
+
+  -- the last group of an address that ends here
+  module _ {group : ℕ} (from : group ≡ behindLast 58 s at) where
+    pub group-some : {r : ℕ} → group < at → r ≡ pastRun (isClass Digit) s group → eqb r at ≡ decimalGroup s at
+    unfolding decimalGroup
+    group-some h e = rw (← from, lt-ltb _ _ h) (ap (λ n. eqb n at) e)
+
+    pub group-none : at ≤ group → false ≡ decimalGroup s at
+    unfolding decimalGroup
+    group-none h = rw (← from, le-ltb _ _ h) refl
+
+  -- the ending of an address
+  pub ipv6-none : colonsAt s at ≡ No → No ≡ ipv6At s at
+  unfolding ipv6At
+  ipv6-none h = ends _ h
+
+  module _ {e w : ℕ} (to : colonsAt s at ≡ To e w) where
+    ending : {t : Bool} {f x : Fit} → decimalGroup s e ≡ t → threeAt s e ≡ f → x ≡ orTo (pick t f No) e → x ≡ ipv6At s at
+    unfolding ipv6At
+    ending h g k = goes-on _ to (rw (h, g) k)
+
+    stays : (t : Bool) (f : Fit) → pick t f No ≡ No → To e 1 ≡ orTo (pick t f No) e
+    unfolding orTo
+    stays t f h = rw h
+
+    pub ipv6-three : threeAt s e ≡ No → To e 1 ≡ ipv6At s at
+    ipv6-three h = ending refl h (stays (decimalGroup s e) No (go (decimalGroup s e)))
+      where
+        go : (t : Bool) → pick t No No ≡ No
+        go true = refl
+        go false = refl
+
+    pub ipv6-hex : {t : Bool} → t ≡ decimalGroup s e → t ≡ false → To e 1 ≡ ipv6At s at
+    ipv6-hex d h = ending (so d h) refl (stays false (threeAt s e) refl)
+
+    pub ipv6-dotted : {t : Bool} {r v : ℕ} → t ≡ decimalGroup s e → t ≡ true → threeAt s e ≡ To r v → To r 1 ≡ ipv6At s at
+    unfolding orTo
+    ipv6-dotted d h g = ending (so d h) g refl
 
   -- 2. IPv4: a part of it
   pub period-none : isDigit (byteAt s at) ≡ false → No ≡ periodAt s at

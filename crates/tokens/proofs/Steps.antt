@@ -22,7 +22,7 @@ use Rattle.tokens.specs.declared.Step.{Step}
 use Rattle.tokens.specs.declared.Step.the-variants.{Taken, Refused}
 use Rattle.tokens.specs.Words.{twoSign, twoSigns, wordIn, nameWord}
 use Rattle.tokens.specs.Blanks.{skipAll}
-use Rattle.tokens.specs.Rules.{whenFit, signFit, thenFit, orElse, taken, refused, pairAt, ipv6At, periodAt, ipv4At, twoAt, oneAt, asAt, hexAt, fractionAt, numberAt, goesOn, escapes, quoteAt, isNameStart, nameAt, tokenAt}
+use Rattle.tokens.specs.Rules.{whenFit, signFit, thenFit, orElse, taken, refused, pairAt, colonsAt, fractionAt, dottedAt, threeAt, decimalGroup, orTo, ipv6At, periodAt, ipv4At, twoAt, oneAt, asAt, hexAt, numberAt, goesOn, escapes, quoteAt, isNameStart, nameAt, tokenAt}
 use Rattle.tokens.specs.Tokens.{stepAt}
 use Rattle.tokens.proofs.Fits.{first, second}
 use Rattle.tokens.proofs.Pairs.{fst, snd, pair-inside}
@@ -66,14 +66,19 @@ unfolding twoSign twoSigns wordIn same
 two-last a = simp and-false
 
 module _ (s : List ℕ) (at : ℕ) where
-  ipv6-good : GoodFit s at (ipv6At s at)
-  unfolding ipv6At
-  ipv6-good =
+  colons-good : GoodFit s at (colonsAt s at)
+  unfolding colonsAt
+  colons-good =
       let a : ℕ = pastRun (isClass HexDigit) s at in
       let b : ℕ = pastRun (isClass HexDigit) s (a + 1) in
       when-good s at (eqb (byteAt s a) 58 && eqb (byteAt s b) 58) (pastRun (isClass HexColon) s (b + 1)) 1 λ t.
       let h : b < length s = inside s b refl (eqb-true _ _ (snd (eqb (byteAt s a) 58) _ t)) (omega arith) in
       (omega (arith, past-ge (isClass HexDigit) s at, past-ge (isClass HexDigit) s (a + 1), past-ge (isClass HexColon) s (b + 1)), past-le (isClass HexColon) s (b + 1) (omega (arith, h)))
+
+  dotted-good : GoodFit s at (dottedAt s at)
+  unfolding dottedAt
+  dotted-good = when-good s at (fractionAt s at) (pastRun (isClass Digit) s (at + 1)) 1 λ t.
+      (omega (arith, past-ge (isClass Digit) s (at + 1)), past-le (isClass Digit) s (at + 1) (omega (arith, fraction-in s at t)))
 
   period-good : GoodFit s at (periodAt s at)
   unfolding periodAt
@@ -135,6 +140,25 @@ module _ (s : List ℕ) (at : ℕ) where
   name-good =
       let e : ℕ = pastRun (isClass NamePart) s at in
       when-good s at (isNameStart (byteAt s at)) e (nameWord (slice at e s)) λ t. name-inside s at t refl
+
+three-good : (s : List ℕ) (at : ℕ) → GoodFit s at (threeAt s at)
+unfolding threeAt
+three-good s at =
+    then-good s at (dottedAt s at) _ (dotted-good s at) λ a h h'.
+    then-good s at (dottedAt s a) _ (wider s at a (omega (arith, h)) (dottedAt s a) (dotted-good s a)) λ b k k'.
+    wider s at b (omega (arith, k)) (dottedAt s b) (dotted-good s b)
+
+ending-good : (s : List ℕ) (at e : ℕ) → at < e → e ≤ length s → (t : Bool) (f : Fit) → GoodFit s at f → GoodFit s at (orTo (pick t f No) e)
+unfolding orTo
+ending-good s at e h k true (To r w) g = g
+ending-good s at e h k true No g = (h, k)
+ending-good s at e h k false f g = (h, k)
+
+ipv6-good : (s : List ℕ) (at : ℕ) → GoodFit s at (ipv6At s at)
+unfolding ipv6At
+ipv6-good s at =
+    then-good s at (colonsAt s at) _ (colons-good s at) λ e h k.
+    ending-good s at e h k (decimalGroup s e) (threeAt s e) (wider s at e (omega (arith, h)) (threeAt s e) (three-good s e))
 
 ipv4-good : (s : List ℕ) (at : ℕ) → GoodFit s at (ipv4At s at)
 unfolding ipv4At

@@ -7,7 +7,7 @@ use lib.Seq.{slice}
 use lib.Dec.{eqb, ltb}
 use Rattle.chars.specs.declared.Class.the-variants.{Digit, Figure, HexDigit, HexColon, NamePart}
 use Rattle.chars.specs.Chars.{pick, byteAt, isClass, isDigit, isLetter}
-use Rattle.chars.specs.Runs.{pastSpan, pastRun}
+use Rattle.chars.specs.Runs.{pastSpan, pastRun, behindLast}
 use Rattle.tokens.specs.declared.Fit.{Fit}
 use Rattle.tokens.specs.declared.Fit.the-variants.{To, No}
 use Rattle.tokens.specs.declared.Step.{Step}
@@ -33,11 +33,37 @@ unfoldable pub pairAt : List ℕ → ℕ → ℕ → ℕ → Bool
 pairAt s at a b = eqb (byteAt s at) a && eqb (byteAt s (at + 1)) b
 
 -- "1. IPv6: hex digits*, `:`, hex digits*, `:`, then hex digits or `:`*."
-unfoldable pub ipv6At : List ℕ → ℕ → Fit
-ipv6At s at =
+unfoldable pub colonsAt : List ℕ → ℕ → Fit
+colonsAt s at =
     let a : ℕ = pastRun (isClass HexDigit) s at in
     let b : ℕ = pastRun (isClass HexDigit) s (a + 1) in
     whenFit (eqb (byteAt s a) 58 && eqb (byteAt s b) 58) (pastRun (isClass HexColon) s (b + 1)) 1
+
+-- "`.` and a digit next"
+unfoldable pub fractionAt : List ℕ → ℕ → Bool
+fractionAt s at = eqb (byteAt s at) 46 && isDigit (byteAt s (at + 1))
+
+-- "a period with decimal digits"
+unfoldable pub dottedAt : List ℕ → ℕ → Fit
+dottedAt s at = whenFit (fractionAt s at) (pastRun (isClass Digit) s (at + 1)) 1
+
+-- "three times", to the end of the last number
+unfoldable pub threeAt : List ℕ → ℕ → Fit
+threeAt s at = thenFit (dottedAt s at) λ a. thenFit (dottedAt s a) λ b. dottedAt s b
+
+-- the last group of a token that ends at a place, from behind its last colon on, is "one or more decimal digits only"
+unfoldable pub decimalGroup : List ℕ → ℕ → Bool
+decimalGroup s e = let group : ℕ = behindLast 58 s e in ltb group e && eqb (pastRun (isClass Digit) s group) e
+
+-- to where a longer token ends, or else to an end
+unfoldable pub orTo : Fit → ℕ → Fit
+orTo (To e w) end = To e 1
+orTo No end = To end 1
+
+-- document 02, C-16: "when the last group of an IPv6 token is one or more decimal digits only and three times a period with decimal
+-- digits follows at once, the token runs to the end of the fourth number"
+unfoldable pub ipv6At : List ℕ → ℕ → Fit
+ipv6At s at = thenFit (colonsAt s at) λ e. orTo (pick (decimalGroup s e) (threeAt s e) No) e
 
 -- "digits+ `.`"
 unfoldable pub periodAt : List ℕ → ℕ → Fit
@@ -62,10 +88,6 @@ asAt s at = whenFit (pairAt s at 65 83 && isDigit (byteAt s (at + 2))) (pastRun 
 -- "6. Hex: `0x`, hex digits*."
 unfoldable pub hexAt : List ℕ → ℕ → Fit
 hexAt s at = whenFit (pairAt s at 48 120) (pastRun (isClass HexDigit) s (at + 2)) 6
-
--- "`.` and a digit next"
-unfoldable pub fractionAt : List ℕ → ℕ → Bool
-fractionAt s at = eqb (byteAt s at) 46 && isDigit (byteAt s (at + 1))
 
 -- "7. Integer, 8. Float: a digit, then digits or `_`; with `.` and a digit next, that fraction too (digits or `_`): a float.
 -- A letter right after begins a suffix: letters, digits, `_`." (Digits and `_` are taken by then, so a suffix begins with a letter.)

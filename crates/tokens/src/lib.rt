@@ -6,7 +6,7 @@ ghost use lib.ListN.{length};
 ghost use Rattle.chars.specs.Runs.{pastSpan};
 ghost use Rattle.tokens.specs.Words.{codeOf, twoSign, oneSign};
 ghost use Rattle.tokens.specs.Blanks.{pastComment, skipAll};
-ghost use Rattle.tokens.specs.Rules.{pairAt, ipv6At, periodAt, ipv4At, twoAt, oneAt, asAt, hexAt, fractionAt, numberAt, goesOn, escapes, quoteAt, isNameStart, nameAt, tokenAt, taken, refused};
+ghost use Rattle.tokens.specs.Rules.{pairAt, colonsAt, fractionAt, dottedAt, threeAt, decimalGroup, ipv6At, periodAt, ipv4At, twoAt, oneAt, asAt, hexAt, numberAt, goesOn, escapes, quoteAt, isNameStart, nameAt, tokenAt, taken, refused};
 ghost use Rattle.tokens.specs.Tokens.{stepAt, bad, wholeOf, refusal, counted, lastOf, answerOf};
 use chars::Class;
 
@@ -86,8 +86,9 @@ fn skip_whitespace(s: &[u8], at: usize) -> usize
     i
 }
 
-fn ipv6(s: &[u8], at: usize) -> Fit
-    ensures { λ r. ⌜ r ≡ ipv6At (now (s .entry)) at ⌝ }
+// Hex digits and colons, with two colons at least.
+fn colons(s: &[u8], at: usize) -> Fit
+    ensures { λ r. ⌜ r ≡ colonsAt (now (s .entry)) at ⌝ }
 {
     let a = chars::past(s, at, Class::HexDigit);
     if chars::byte_at(s, a) != 58 {
@@ -98,6 +99,69 @@ fn ipv6(s: &[u8], at: usize) -> Fit
         return Fit::No;
     }
     Fit::To(chars::past(s, b + 1, Class::HexColon), 1)
+}
+
+// `.` and a digit.
+fn fraction_at(s: &[u8], at: usize) -> bool
+    ensures { λ r. ⌜ r ≡ fractionAt (now (s .entry)) at ⌝ }
+{
+    if chars::byte_at(s, at) == 46 {
+        chars::is_digit(chars::byte_at(s, at + 1))
+    } else {
+        false
+    }
+}
+
+// A period with digits.
+fn dotted(s: &[u8], at: usize) -> Fit
+    ensures { λ r. ⌜ r ≡ dottedAt (now (s .entry)) at ⌝ }
+{
+    if fraction_at(s, at) {
+        return Fit::To(chars::past(s, at + 1, Class::Digit), 1);
+    }
+    Fit::No
+}
+
+// Three times a period with digits.
+fn three_dotted(s: &[u8], at: usize) -> Fit
+    ensures { λ r. ⌜ r ≡ threeAt (now (s .entry)) at ⌝ }
+{
+    let Fit::To(a, _) = dotted(s, at) else {
+        return Fit::No;
+    };
+    let Fit::To(b, _) = dotted(s, a) else {
+        return Fit::No;
+    };
+    dotted(s, b)
+}
+
+// Whether the last group of an address that ends at a place is decimal digits only. Nothing before that group is read.
+fn decimal_group(s: &[u8], end: usize) -> bool
+    ensures { λ r. ⌜ r ≡ decimalGroup (now (s .entry)) end ⌝ }
+{
+    let group = chars::behind_last(s, end, 58);
+    if group < end {
+        chars::past(s, group, Class::Digit) == end
+    } else {
+        false
+    }
+}
+
+// Few tokens have a period behind them, so the last group is looked at last.
+fn ipv6(s: &[u8], at: usize) -> Fit
+    ensures { λ r. ⌜ r ≡ ipv6At (now (s .entry)) at ⌝ }
+{
+    let Fit::To(end, _) = colons(s, at) else {
+        return Fit::No;
+    };
+    let Fit::To(fourth, _) = three_dotted(s, end) else {
+        return Fit::To(end, 1);
+    };
+    if decimal_group(s, end) {
+        Fit::To(fourth, 1)
+    } else {
+        Fit::To(end, 1)
+    }
 }
 
 // Digits and a period.
@@ -247,17 +311,6 @@ fn hex_number(s: &[u8], at: usize) -> Fit
         Fit::To(chars::past(s, at + 2, Class::HexDigit), 6)
     } else {
         Fit::No
-    }
-}
-
-// `.` and a digit.
-fn fraction_at(s: &[u8], at: usize) -> bool
-    ensures { λ r. ⌜ r ≡ fractionAt (now (s .entry)) at ⌝ }
-{
-    if chars::byte_at(s, at) == 46 {
-        chars::is_digit(chars::byte_at(s, at + 1))
-    } else {
-        false
     }
 }
 

@@ -11,10 +11,11 @@ struct Seen {
 
 type Test = fn(&Seen) -> bool;
 
-const CAUSES: [(&str, Test); 14] = [
+const CAUSES: [(&str, Test); 15] = [
     ("left out: length, bytes of 128, a shebang", |s| s.oracle_says(&[1, 2, 3])),
     ("limits", |s| s.oracle_says(&[9])),
     ("the token list has no f-strings", |s| s.oracle_says(&[5])),
+    ("an address with a dotted end", Seen::dotted_address),
     ("place of 7", |s| s.both_say(7)),
     ("place of 8", |s| s.both_say(8)),
     ("a backslash before a newline", |s| s.source.contains("\\\n")),
@@ -39,6 +40,20 @@ impl Seen {
 
     fn has(&self, texts: &[&str]) -> bool {
         texts.iter().any(|text| self.tight.contains(text))
+    }
+
+    /// Behind two colons with hex digits between them alone, or such colons: digits, and three times a period with digits.
+    fn dotted_address(&self) -> bool {
+        let hex_colon = |c: char| c.is_ascii_hexdigit() || c == ':';
+        let digits = |text: &str| !text.is_empty() && text.bytes().all(|byte| byte.is_ascii_digit());
+        self.source.split(|c: char| !hex_colon(c) && c != '.').any(|text| {
+            let parts: Vec<&str> = text.split('.').collect();
+            parts.windows(4).any(|quad| {
+                let (before, group) = quad[0].rsplit_once(':').unwrap_or(("", ""));
+                let last = quad[3].split(|c: char| !c.is_ascii_digit()).next().unwrap_or("");
+                before.contains(':') && [group, quad[1], quad[2], last].into_iter().all(digits)
+            })
+        })
     }
 
     /// A digit or `_` before a point, or before `e`.

@@ -44,7 +44,7 @@ pub const WORDS: [&str; 24] = [
 ];
 
 /// Texts that stop short of a rule, or that a neighbouring rule takes.
-pub const NEAR: [&str; 56] = [
+pub const NEAR: [&str; 68] = [
     "&",
     "|",
     "#",
@@ -76,6 +76,18 @@ pub const NEAR: [&str; 56] = [
     "1.2.3.",
     "1.2.3.x",
     "1.2.3.4.5",
+    "::1.2",
+    "::1.2.3",
+    "::1.2.3.",
+    "::1.2.3.4",
+    "::1.2.3.4.",
+    "::1.2.3.4.5",
+    "::1.2.3.4:5",
+    "::1.2.3.4x",
+    "::a1.2.3.4",
+    "::.1.2.3",
+    ":1.2.3.4",
+    "1:1.1.1.1:1.1.1..",
     "AS",
     "ASx",
     "AS1x",
@@ -133,6 +145,19 @@ fn ipv6(r: &mut Random, out: &mut Vec<u8>) {
     r.run(HEX, 0, 4, out);
     out.push(b':');
     r.run(HEX_COLON, 0, 20, out);
+    if r.once_in(3) {
+        dotted(r, out);
+    }
+}
+
+/// Digits, and two to four times a period with digits, one in a few of them without.
+fn dotted(r: &mut Random, out: &mut Vec<u8>) {
+    r.run(DIGITS, 0, 3, out);
+    for _ in 0..2 + r.below(3) {
+        out.push(b'.');
+        let least = usize::from(!r.once_in(12));
+        r.run(DIGITS, least, 3, out);
+    }
 }
 
 fn ipv4(r: &mut Random, out: &mut Vec<u8>) {

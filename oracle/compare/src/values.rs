@@ -106,7 +106,8 @@ fn ipv4(r: &mut Random, out: &mut Vec<u8>) {
 }
 
 fn ipv6(r: &mut Random, out: &mut Vec<u8>) {
-    let groups = if r.once_in(2) { 8 } else { r.below(10) };
+    let dotted = r.once_in(3);
+    let groups = if r.once_in(2) { if dotted { 6 } else { 8 } } else { r.below(10) };
     let gap = r.below(12);
     for i in 0..groups {
         if i > 0 {
@@ -121,6 +122,11 @@ fn ipv6(r: &mut Random, out: &mut Vec<u8>) {
     }
     if gap >= groups && r.once_in(2) {
         out.extend_from_slice(b"::");
+    } else if dotted {
+        out.push(b':');
+    }
+    if dotted {
+        ipv4(r, out);
     }
 }
 

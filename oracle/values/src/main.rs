@@ -4,6 +4,8 @@ use std::net::{Ipv4Addr, Ipv6Addr};
 unsafe extern "C" {
     /// out: 0 or 7, kind, value, detail.
     fn lekhyundo_literal(s: *const u8, n: usize, code: u64, start: usize, end: usize, out: *mut u64, room: usize);
+    /// out: 0, start, end, code, word; or a refusal.
+    fn lekhyundo_step(s: *const u8, n: usize, at: usize, out: *mut u64, room: usize);
     /// answer: number, start, end, count.
     fn lekhyundo_decode(s: *const u8, n: usize, out: *mut u8, room: usize, answer: *mut u64, answers: usize);
 }
@@ -18,6 +20,13 @@ fn ours(s: &[u8], code: u64, start: usize, end: usize) -> Row {
         7 => None,
         _ => panic!("number {}", out[0]),
     }
+}
+
+/// Whether a text is one token of the code.
+fn one_token(s: &[u8], code: u64) -> bool {
+    let mut out = [9u64; 5];
+    unsafe { lekhyundo_step(s.as_ptr(), s.len(), 0, out.as_mut_ptr(), 5) };
+    out[..4] == [0, 0, s.len() as u64, code]
 }
 
 const SUFFIXES: [&str; 11] = ["", "i8", "i16", "i32", "i64", "u8", "u16", "u32", "u64", "f32", "f64"];
@@ -137,7 +146,6 @@ fn quoted(t: &str, quote: char) -> Option<Vec<char>> {
 fn expected(t: &[u8], code: u64) -> Row {
     let t = std::str::from_utf8(t).ok()?;
     match code {
-        1 if t.contains('.') => None,
         1 => t.parse::<Ipv6Addr>().ok().map(|a| (15, (u128::from(a) >> 64) as u64, u128::from(a) as u64)),
         2 => t.parse::<Ipv4Addr>().ok().map(|a| (14, u32::from(a) as u64, 0)),
         5 => digits(t.strip_prefix("AS")?, 10)?.parse::<u32>().ok().map(|v| (13, v as u64, 0)),
@@ -154,6 +162,7 @@ fn expected(t: &[u8], code: u64) -> Row {
 #[derive(Default)]
 struct Tally {
     texts: u64,
+    tokens: u64,
     values: u64,
     differences: u64,
 }
@@ -174,6 +183,19 @@ impl Tally {
         let want = expected(text, code);
         let got = ours(text, code, 0, text.len());
         self.note(&format!("{code} {got:?} not {want:?}"), text, got == want, want.is_some());
+        if code == 1 {
+            self.address_token(text, want.is_some());
+        }
+    }
+
+    /// A text that holds an address is one token.
+    fn address_token(&mut self, text: &[u8], holds: bool) {
+        let token = one_token(text, 1);
+        self.tokens += u64::from(token);
+        if holds && !token {
+            self.differences += 1;
+            println!("NO TOKEN {:?}", String::from_utf8_lossy(text));
+        }
     }
 
     /// A text inside a larger source, and ends that need not fit.
@@ -265,7 +287,9 @@ impl Random {
                 }
                 let edge = self.pick(&["", "", ":", "::"]);
                 let back = self.pick(&["", "", "", ":"]);
-                format!("{edge}{}{back}", groups.join(":"))
+                let quad = if self.below(2) == 0 { self.text(2) } else { String::new() };
+                let colon = if quad.is_empty() || groups.is_empty() { "" } else { self.pick(&[":", ":", ":", "::", ""]) };
+                format!("{edge}{}{back}{colon}{quad}", groups.join(":"))
             }
             2 => {
                 let n = 3 + self.below(3);
@@ -361,7 +385,16 @@ fn kind(code: u64) -> &'static str {
 
 fn exhaustive(code: u64, tally: &mut Tally) {
     let over: &[(&[u8], usize, &[u8], &[u8])] = match code {
-        1 => &[(b":01fg", 9, b"", b""), (b":1", 19, b"", b""), (b":1F", 8, b"1:2:3:4:", b""), (b":1F", 8, b"", b":5:6:7")],
+        1 => &[
+            (b":01fg", 9, b"", b""),
+            (b":1", 19, b"", b""),
+            (b":1F", 8, b"1:2:3:4:", b""),
+            (b":1F", 8, b"", b":5:6:7"),
+            (b"10a:.25", 9, b"", b""),
+            (b":1", 16, b"", b"1.2.3.4"),
+            (b"01a.:", 9, b"::", b""),
+            (b"126.", 9, b"1:2:3:4:5:6:", b""),
+        ],
         2 => &[(b"0126.", 9, b"", b""), (b"01.", 13, b"", b""), (b"0123456789.", 4, b"1.2.", b"3")],
         5 => &[(b"AS0189_", 7, b"", b""), (b"0123456789", 4, b"AS429496", b"")],
         6 => &[(b"0x18fFg_", 6, b"", b""), (b"0178fF", 3, b"0x7ffffffffffffff", b""), (b"0178fF", 3, b"0x", b"ffffffffffffff")],
@@ -442,6 +475,10 @@ fn long(tally: &mut Tally) {
         (1, format!("::{zeros}")),
         (1, ":".repeat(60000)),
         (1, "1:".repeat(30000)),
+        (1, format!("::{}1.2.3.4", "1:".repeat(30000))),
+        (1, format!("::{zeros}.1.1.1")),
+        (1, format!("::1.1.1.{zeros}")),
+        (1, format!("::{}", "1.".repeat(30000))),
         (9, format!("\"{}\"", "\\u{1_0_F_f_f_f}".repeat(4000))),
         (9, format!("\"{}\"", "a".repeat(65533))),
         (9, format!("\"{}", "\\u{1".repeat(16000))),
@@ -478,6 +515,9 @@ fn main() {
             tally.values - short.1,
             tally.differences
         );
+        if code == 1 {
+            println!("IPv6: {} of them are one token", tally.tokens);
+        }
         bad += tally.differences;
     }
     let mut tally = Tally::default();

@@ -28,7 +28,7 @@ enum-told : tie.Need-enum-told
 enum-told c = search needs
 
 returns : tie.Need-returns
-returns c = short-left (sideOf (take (c .before .before .before .before .before .args .at) (c .before .before .before .before .before .args .t .now))) (sideOf (drop (c .before .before .before .before .before .args .at + 2) (c .before .before .before .before .before .args .t .now))) _ _ (so (c .before .before .side .ensures) (c .enum-told .given .1))
+returns c = short-left (c .before .before .before .before .before .pre .1) (sideOf (take (c .before .before .before .before .before .args .at) (c .before .before .before .before .before .args .t .now))) (sideOf (drop (c .before .before .before .before .before .args .at + 2) (c .before .before .before .before .before .args .t .now))) _ _ (so (c .before .before .side .ensures) (c .enum-told .given .1))
 
 add-side : tie.Need-add-side
 add-side c = search needs
@@ -52,13 +52,13 @@ enum-told-2 : tie.Need-enum-told-2
 enum-told-2 c = search needs
 
 returns-2 : tie.Need-returns-2
-returns-2 c = short-right (sideOf (take (c .before .before .before .before .before .before .before .before .before .before .args .at) (c .before .before .before .before .before .before .before .before .before .before .args .t .now))) (sideOf (drop (c .before .before .before .before .before .before .before .before .before .before .args .at + 2) (c .before .before .before .before .before .before .before .before .before .before .args .t .now))) _ _ (so (c .before .before .side2 .ensures ∙ ap (λ l. heard Form.Hexed 0 (c .before .before .before .before .before .count .given .0 .1 .0) (sideOf l)) (tail-part (c .before .before .before .before .before .before .before .before .before .before .args .t .now) (c .before .before .before .before .before .before .before .before .before .before .args .at + 2))) (c .enum-told2 .given .1))
+returns-2 c = short-right (c .before .before .before .before .before .before .before .before .before .before .pre .1) (sideOf (take (c .before .before .before .before .before .before .before .before .before .before .args .at) (c .before .before .before .before .before .before .before .before .before .before .args .t .now))) (sideOf (drop (c .before .before .before .before .before .before .before .before .before .before .args .at + 2) (c .before .before .before .before .before .before .before .before .before .before .args .t .now))) _ _ (so (c .before .before .side2 .ensures ∙ ap (λ l. heard Form.Hexed 0 (c .before .before .before .before .before .count .given .0 .1 .0) (sideOf l)) (tail-part (c .before .before .before .before .before .before .before .before .before .before .args .t .now) (c .before .before .before .before .before .before .before .before .before .before .args .at + 2))) (c .enum-told2 .given .1))
 
 add-if1 : tie.Need-add-if1
 add-if1 c = omega (arith, (heard-are Form.Hexed 0 _ (sideOf (take (c .before .before .before .before .before .before .before .before .before .before .before .args .at) (c .before .before .before .before .before .before .before .before .before .before .before .args .t .now))) (so (c .before .before .before .before .before .before .before .before .side .ensures) (c .before .before .before .before .before .before .count .given .1))) .few, (heard-are Form.Hexed 0 _ (sideOf (drop (c .before .before .before .before .before .before .before .before .before .before .before .args .at + 2) (c .before .before .before .before .before .before .before .before .before .before .before .args .t .now))) (so (c .before .before .before .side2 .ensures ∙ ap (λ l. heard Form.Hexed 0 (c .before .before .before .before .before .before .count .given .0 .1 .0) (sideOf l)) (tail-part (c .before .before .before .before .before .before .before .before .before .before .before .args .t .now) (c .before .before .before .before .before .before .before .before .before .before .before .args .at + 2))) (c .before .right .given .1))) .few)
 
 returns-3 : tie.Need-returns-3
-returns-3 c = short-over (sideOf (take (c .before .before .before .before .before .before .before .before .before .before .before .before .args .at) (c .before .before .before .before .before .before .before .before .before .before .before .before .args .t .now))) (sideOf (drop (c .before .before .before .before .before .before .before .before .before .before .before .before .args .at + 2) (c .before .before .before .before .before .before .before .before .before .before .before .before .args .t .now))) _ (heard-are Form.Hexed 0 _ (sideOf (take (c .before .before .before .before .before .before .before .before .before .before .before .before .args .at) (c .before .before .before .before .before .before .before .before .before .before .before .before .args .t .now))) (so (c .before .before .before .before .before .before .before .before .before .side .ensures) (c .before .before .before .before .before .before .before .count .given .1))) (heard-are Form.Hexed 0 _ (sideOf (drop (c .before .before .before .before .before .before .before .before .before .before .before .before .args .at + 2) (c .before .before .before .before .before .before .before .before .before .before .before .before .args .t .now))) (so (c .before .before .before .before .side2 .ensures ∙ ap (λ l. heard Form.Hexed 0 (c .before .before .before .before .before .before .before .count .given .0 .1 .0) (sideOf l)) (tail-part (c .before .before .before .before .before .before .before .before .before .before .before .before .args .t .now) (c .before .before .before .before .before .before .before .before .before .before .before .before .args .at + 2))) (c .before .before .right .given .1))) (c .if1 .taken)
+returns-3 c = short-over (c .before .before .before .before .before .before .before .before .before .before .before .before .pre .1) (sideOf (take (c .before .before .before .before .before .before .before .before .before .before .before .before .args .at) (c .before .before .before .before .before .before .before .before .before .before .before .before .args .t .now))) (sideOf (drop (c .before .before .before .before .before .before .before .before .before .before .before .before .args .at + 2) (c .before .before .before .before .before .before .before .before .before .before .before .before .args .t .now))) _ (heard-are Form.Hexed 0 _ (sideOf (take (c .before .before .before .before .before .before .before .before .before .before .before .before .args .at) (c .before .before .before .before .before .before .before .before .before .before .before .before .args .t .now))) (so (c .before .before .before .before .before .before .before .before .before .side .ensures) (c .before .before .before .before .before .before .before .count .given .1))) (heard-are Form.Hexed 0 _ (sideOf (drop (c .before .before .before .before .before .before .before .before .before .before .before .before .args .at + 2) (c .before .before .before .before .before .before .before .before .before .before .before .before .args .t .now))) (so (c .before .before .before .before .side2 .ensures ∙ ap (λ l. heard Form.Hexed 0 (c .before .before .before .before .before .before .before .count .given .0 .1 .0) (sideOf l)) (tail-part (c .before .before .before .before .before .before .before .before .before .before .before .before .args .t .now) (c .before .before .before .before .before .before .before .before .before .before .before .before .args .at + 2))) (c .before .before .right .given .1))) (c .if1 .taken)
 
 add-zeros : tie.Need-add-zeros
 add-zeros c = search needs
@@ -88,7 +88,7 @@ side-requires-3 : tie.Need-side-requires-3
 side-requires-3 c κs = search needs
 
 returns-4 : tie.Need-returns-4
-returns-4 c = short-is (sideOf (take (c .before .before .before .before .before .before .before .before .before .before .before .before .before .before .before .args .at) (c .before .before .before .before .before .before .before .before .before .before .before .before .before .before .before .args .t .now))) (sideOf (drop (c .before .before .before .before .before .before .before .before .before .before .before .before .before .before .before .args .at + 2) (c .before .before .before .before .before .before .before .before .before .before .before .before .before .before .before .args .t .now))) _ (heard-are Form.Hexed 0 _ (sideOf (take (c .before .before .before .before .before .before .before .before .before .before .before .before .before .before .before .args .at) (c .before .before .before .before .before .before .before .before .before .before .before .before .before .before .before .args .t .now))) (so (c .before .before .before .before .before .before .before .before .before .before .before .before .side .ensures) (c .before .before .before .before .before .before .before .before .before .before .count .given .1))) (heard-are Form.Hexed 0 _ (sideOf (drop (c .before .before .before .before .before .before .before .before .before .before .before .before .before .before .before .args .at + 2) (c .before .before .before .before .before .before .before .before .before .before .before .before .before .before .before .args .t .now))) (so (c .before .before .before .before .before .before .before .side2 .ensures ∙ ap (λ l. heard Form.Hexed 0 (c .before .before .before .before .before .before .before .before .before .before .count .given .0 .1 .0) (sideOf l)) (tail-part (c .before .before .before .before .before .before .before .before .before .before .before .before .before .before .before .args .t .now) (c .before .before .before .before .before .before .before .before .before .before .before .before .before .before .before .args .at + 2))) (c .before .before .before .before .before .right .given .1))) (c .before .before .before .if1 .left) (c .before .before .zeros .ensures) (c .side3 .ensures ∙ ap (λ l. heard Form.Hexed (8 - c .before .before .before .before .before .right .given .0 .0) (c .before .before .zeros .result) (sideOf l)) (tail-part (c .before .before .before .before .before .before .before .before .before .before .before .before .before .before .before .args .t .now) (c .before .before .before .before .before .before .before .before .before .before .before .before .before .before .before .args .at + 2)))
+returns-4 c = short-is (c .before .before .before .before .before .before .before .before .before .before .before .before .before .before .before .pre .1) (sideOf (take (c .before .before .before .before .before .before .before .before .before .before .before .before .before .before .before .args .at) (c .before .before .before .before .before .before .before .before .before .before .before .before .before .before .before .args .t .now))) (sideOf (drop (c .before .before .before .before .before .before .before .before .before .before .before .before .before .before .before .args .at + 2) (c .before .before .before .before .before .before .before .before .before .before .before .before .before .before .before .args .t .now))) _ (heard-are Form.Hexed 0 _ (sideOf (take (c .before .before .before .before .before .before .before .before .before .before .before .before .before .before .before .args .at) (c .before .before .before .before .before .before .before .before .before .before .before .before .before .before .before .args .t .now))) (so (c .before .before .before .before .before .before .before .before .before .before .before .before .side .ensures) (c .before .before .before .before .before .before .before .before .before .before .count .given .1))) (heard-are Form.Hexed 0 _ (sideOf (drop (c .before .before .before .before .before .before .before .before .before .before .before .before .before .before .before .args .at + 2) (c .before .before .before .before .before .before .before .before .before .before .before .before .before .before .before .args .t .now))) (so (c .before .before .before .before .before .before .before .side2 .ensures ∙ ap (λ l. heard Form.Hexed 0 (c .before .before .before .before .before .before .before .before .before .before .count .given .0 .1 .0) (sideOf l)) (tail-part (c .before .before .before .before .before .before .before .before .before .before .before .before .before .before .before .args .t .now) (c .before .before .before .before .before .before .before .before .before .before .before .before .before .before .before .args .at + 2))) (c .before .before .before .before .before .right .given .1))) (c .before .before .before .if1 .left) (c .before .before .zeros .ensures) (c .side3 .ensures ∙ ap (λ l. heard Form.Hexed (c .before .before .before .before .before .before .before .before .before .before .before .before .before .before .before .args .whole - c .before .before .before .before .before .right .given .0 .0) (c .before .before .zeros .result) (sideOf l)) (tail-part (c .before .before .before .before .before .before .before .before .before .before .before .before .before .before .before .args .t .now) (c .before .before .before .before .before .before .before .before .before .before .before .before .before .before .before .args .at + 2)))
 
 pub shortened-spec : {M : Type 1} → statement M
 shortened-spec =

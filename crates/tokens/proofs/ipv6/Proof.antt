@@ -1,54 +1,54 @@
-use Rattle.chars.proofs.Runs.{inside}
-use Rattle.chars.proofs.Runs.{inside}
-use Rattle.chars.proofs.Runs.{inside}
-use native.Mathlib.Omega.{arith}
-use Rattle.chars.proofs.Runs.{inside}
-use Rattle.tokens.proofs.Rules.{ipv6-first, ipv6-second, ipv6-fits}
+use Rattle.tokens.proofs.Fits.{so}
+use Rattle.tokens.proofs.Rules.{ipv6-none, ipv6-three, ipv6-hex, ipv6-dotted}
 use borrow.Author.Needs.{needs}
 use Rattle.tokens.proofs.ipv6.Statement.{statement}
 use Rattle.tokens.proofs.ipv6.Tie as tie
 
-past-requires : tie.Need-past-requires
-past-requires c κs = search needs
+colons-requires : tie.Need-colons-requires
+colons-requires c κs = search needs
 
-byte-at-requires : tie.Need-byte-at-requires
-byte-at-requires c κs = search needs
+enum-known-end : tie.Need-enum-known-end
+enum-known-end c = search needs
+
+enum-told : tie.Need-enum-told
+enum-told c = search needs
 
 returns : tie.Need-returns
-returns c = ipv6-first _ _ (c .before .before .past .ensures) (c .before .byte-at .ensures) (c .if1 .taken)
+returns c = ipv6-none _ _ (so (c .before .before .colons .ensures) (c .enum-told .given .1))
 
-add-past : tie.Need-add-past
-add-past c = omega (arith, inside (c .before .before .before .before .args .s .now) (c .before .before .past .result) (c .before .byte-at .ensures) (c .if1 .left) (omega arith))
+three-dotted-requires : tie.Need-three-dotted-requires
+three-dotted-requires c κs = search needs
 
-past-requires-2 : tie.Need-past-requires-2
-past-requires-2 c κs = search needs
+enum-known-fourth : tie.Need-enum-known-fourth
+enum-known-fourth c = search needs
 
-byte-at-requires-2 : tie.Need-byte-at-requires-2
-byte-at-requires-2 c κs = search needs
+enum-told-2 : tie.Need-enum-told-2
+enum-told-2 c = search needs
 
 returns-2 : tie.Need-returns-2
-returns-2 c = ipv6-second _ _ (c .before .before .before .before .before .past .ensures) (c .before .before .before .before .byte-at .ensures) (c .before .before .before .if1 .left) (c .before .before .past2 .ensures) (c .before .byte-at2 .ensures) (c .if2 .taken)
+returns-2 c = ipv6-three _ _ (so (c .before .before .before .before .before .before .colons .ensures) (c .before .before .before .before .end .given .1)) (so (c .before .before .three-dotted .ensures) (c .enum-told2 .given .1))
 
-add-past-2 : tie.Need-add-past-2
-add-past-2 c = omega (arith, inside (c .before .before .before .before .before .before .before .args .s .now) (c .before .before .past2 .result) (c .before .byte-at2 .ensures) (c .if2 .left) (omega arith))
-
-past-requires-3 : tie.Need-past-requires-3
-past-requires-3 c κs = search needs
+decimal-group-requires : tie.Need-decimal-group-requires
+decimal-group-requires c κs = search needs
 
 returns-3 : tie.Need-returns-3
-returns-3 c = ipv6-fits _ _ (c .before .before .before .before .before .before .past .ensures) (c .before .before .before .before .before .byte-at .ensures) (c .before .before .before .before .if1 .left) (c .before .before .before .past2 .ensures) (c .before .before .byte-at2 .ensures) (c .before .if2 .left) (c .past3 .ensures)
+returns-3 c = ipv6-dotted _ _ (so (c .before .before .before .before .before .before .before .before .before .colons .ensures) (c .before .before .before .before .before .before .before .end .given .1)) (c .before .decimal-group .ensures) (c .if1 .taken) (so (c .before .before .before .before .before .three-dotted .ensures) (c .before .before .before .fourth .given .1))
+
+returns-4 : tie.Need-returns-4
+returns-4 c = ipv6-hex _ _ (so (c .before .before .before .before .before .before .before .before .before .colons .ensures) (c .before .before .before .before .before .before .before .end .given .1)) (c .before .decimal-group .ensures) (c .if1 .left)
 
 pub ipv6-spec : {M : Type 1} → statement M
 ipv6-spec =
     tie.close
     (tie.spec
-    past-requires
-    byte-at-requires
+    colons-requires
+    enum-known-end
+    enum-told
     returns
-    add-past
-    past-requires-2
-    byte-at-requires-2
+    three-dotted-requires
+    enum-known-fourth
+    enum-told-2
     returns-2
-    add-past-2
-    past-requires-3
-    returns-3)
+    decimal-group-requires
+    returns-3
+    returns-4)
