@@ -71,6 +71,13 @@ void lekhyundo_decode(const uint8_t *source, size_t source_length, uint8_t *out,
 void lekhyundo_literal(const uint8_t *source, size_t source_length, uint64_t code, size_t start, size_t end,
                        uint64_t *out, size_t out_length);
 
+/* The number of one float literal, five numbers: 0, start, end, the width (32 with the suffix f32, else 64), and the bits of the float
+ * of that width nearest to the decimal itself, ties to even. Or a refusal and two zeros: 7 where the bytes are not one float with a value,
+ * alone (nothing before or behind it, at most 65,535 bytes), 14 where it has more than 19 digits from the first that isn't 0 to the last
+ * written, or more than 19 after the point. The place is 0 and the length either way. For a row of kind 11: its span, source + start and
+ * end - start; 7 is not given then. */
+void lekhyundo_float(const uint8_t *literal, size_t length, uint64_t *answer, size_t answer_length);
+
 #ifdef __cplusplus
 }
 #endif

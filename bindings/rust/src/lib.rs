@@ -8,6 +8,7 @@ mod c {
         pub fn lekhyundo_token_list(s: *const u8, n: usize, list: *mut super::Token, room: usize, answer: *mut u64, four: usize);
         pub fn lekhyundo_name(s: *const u8, n: usize, kind: u64, start: usize, end: usize) -> usize;
         pub fn lekhyundo_decode(s: *const u8, n: usize, out: *mut u8, size: usize, answer: *mut u64, four: usize);
+        pub fn lekhyundo_float(s: *const u8, n: usize, answer: *mut u64, five: usize);
     }
 }
 
@@ -26,7 +27,10 @@ pub const F_STRING: u64 = 46;
 /// Kind of a text in an f-string: its value is the bytes in UTF-8 once escapes are read and pairs of braces halved. Empty ones have no row.
 pub const TEXT: u64 = 47;
 
-/// A number from 1 to 11, its place, and what is needed for 10.
+/// Kind of a float's row; `float_of` gives its number.
+pub const FLOAT: u64 = 11;
+
+/// A number from 1 to 11 or 14, its place, and what is needed for 10.
 #[derive(Clone, Copy, Debug, PartialEq, Eq)]
 pub struct Refusal {
     pub number: u64,
@@ -50,6 +54,7 @@ impl Refusal {
             9 => "nested too deep",
             10 => "no room",
             11 => "source ends too early",
+            14 => "float with too many digits",
             _ => "unknown number",
         }
     }
@@ -144,4 +149,28 @@ pub fn decode(token: &[u8]) -> Result<Vec<u8>, Refusal> {
     let count = taken(answer)?;
     out.truncate(count);
     Ok(out)
+}
+
+/// The number of a float literal, of the width that its suffix names; an f64 without one.
+#[derive(Clone, Copy, Debug, PartialEq)]
+pub enum Float {
+    F32(f32),
+    F64(f64),
+}
+
+/// The float nearest to the decimal that one float literal writes, ties to even; 7 for bytes that are none, 14 for more than 19 digits.
+pub fn float(literal: &[u8]) -> Result<Float, Refusal> {
+    let mut answer = [0; 5];
+    // SAFETY: as above.
+    unsafe { c::lekhyundo_float(literal.as_ptr(), literal.len(), answer.as_mut_ptr(), 5) };
+    let [number, start, end, width, bits] = answer;
+    taken([number, start, end, 0])?;
+    Ok(if width == 32 { Float::F32(f32::from_bits(bits as u32)) } else { Float::F64(f64::from_bits(bits)) })
+}
+
+/// The number of a float's row, a refusal placed at it; 7 for any other row and for a span that doesn't fit.
+pub fn float_of(source: &[u8], row: &Row) -> Result<Float, Refusal> {
+    let (start, end) = (row[1] as usize, row[2] as usize);
+    let text = source.get(start..end).filter(|_| row[0] == FLOAT);
+    float(text.unwrap_or(b"")).map_err(|refusal| Refusal { start, end, ..refusal })
 }

@@ -1,4 +1,4 @@
-use lekhyundo::{F_STRING, Reader, Refusal, TEXT, Token, decode, name, tokens};
+use lekhyundo::{F_STRING, FLOAT, Float, Reader, Refusal, TEXT, Token, decode, float, float_of, name, tokens};
 
 fn refusal(number: u64, start: usize, end: usize) -> Refusal {
     Refusal { number, start, end, needed: 0 }
@@ -85,4 +85,30 @@ fn tokens_and_strings() {
     assert_eq!(decode(br#""a\u{e9}\n""#), Ok("a\u{e9}\n".as_bytes().to_vec()));
     assert_eq!(decode(b"\"a"), Err(refusal(7, 0, 2)));
     assert_eq!(decode(b""), Err(refusal(7, 0, 0)));
+}
+
+#[test]
+fn a_float_has_the_width_of_its_suffix() {
+    assert_eq!(float(b"0.1"), Ok(Float::F64(0.1)));
+    assert_eq!(float(b"0.1f32"), Ok(Float::F32(0.1)));
+    assert_eq!(float(b"1_000f64"), Ok(Float::F64(1000.0)));
+    // Through an f64 it would be the even neighbour below.
+    assert_eq!(float(b"16777217.00000000001f32"), Ok(Float::F32(16777218.0)));
+    assert_eq!(float(b"1"), Err(refusal(7, 0, 1)));
+    assert_eq!(float(b"1.5 "), Err(refusal(7, 0, 4)));
+    assert_eq!(float(b""), Err(refusal(7, 0, 0)));
+    assert_eq!(float(b"1.0000000000000000000"), Err(refusal(14, 0, 21)));
+    assert_eq!(float(&[b'0'; 65_536]), Err(refusal(7, 0, 65_536)));
+}
+
+#[test]
+fn a_row_of_a_float_has_its_number() {
+    let source = b"const LIMIT: f32 = 0.1f32; const A: f64 = 0.00000000000000000001;";
+    let mut reader = Reader::default();
+    let rows: Vec<_> = reader.tree(source).unwrap().filter(|row| row[0] == FLOAT).collect();
+    assert_eq!(float_of(source, &rows[0]), Ok(Float::F32(0.1)));
+    assert_eq!(float_of(source, &rows[1]), Err(refusal(14, 42, 64)));
+    assert_eq!(float_of(source, &[1, 6, 11, 0, 0, 0]), Err(refusal(7, 6, 11)));
+    assert_eq!(float_of(source, &[FLOAT, 60, 90, 0, 0, 0]), Err(refusal(7, 60, 90)));
+    assert_eq!(float_of(source, &[FLOAT, 9, 8, 0, 0, 0]), Err(refusal(7, 9, 8)));
 }

@@ -1,4 +1,4 @@
-// Answers cases from standard input, one after the other: a line `ENTRY LENGTH ROOM`, then LENGTH bytes.
+// Answers cases from standard input, one after the other: a line `ENTRY LENGTH` or `ENTRY LENGTH ROOM`, then LENGTH bytes.
 ghost use mathlib.Core.Path.{_≡_};
 ghost use lib.ListN.{length};
 use libc::STDIN_FILENO;
@@ -6,6 +6,9 @@ use libc::STDOUT_FILENO;
 
 // More cases than anyone keeps.
 const MOST_CASES: usize = 1000000;
+
+// More room than any case asks for.
+const ENOUGH: usize = 1000000;
 
 // The next byte of the cases, a newline behind the last.
 fn next_byte() -> u8 {
@@ -20,24 +23,40 @@ fn wide(b: u8) -> usize
     b as usize
 }
 
+// A number of a header and the byte behind it.
+struct Numeral {
+    value: usize,
+    behind: u8,
+}
+
 // The next number of a header, of at most six digits, and the byte behind it taken too.
-fn figure() -> usize {
+fn figure() -> Numeral {
     let mut value: usize = 0;
+    let mut behind = b'0';
     let mut digits: usize = 0;
     while digits < 7 {
-        let b = next_byte();
-        if b < 48 {
-            return value;
+        behind = next_byte();
+        if behind < 48 {
+            return Numeral { value, behind };
         }
-        if 57 < b {
-            return value;
+        if 57 < behind {
+            return Numeral { value, behind };
         }
         if value < 1000000 {
-            value = value * 10 + wide(b - 48);
+            value = value * 10 + wide(behind - 48);
         }
         digits += 1;
     }
-    value
+    Numeral { value, behind }
+}
+
+// The room, and enough where the line ends without one.
+fn room_behind(behind: u8) -> usize {
+    if behind == b'\n' {
+        return ENOUGH;
+    }
+    let room = figure();
+    room.value
 }
 
 // (a) in a table with so many rows, and with some numbers behind them that are no row.
@@ -58,13 +77,14 @@ fn expression(source: &[u8], room: usize, table: &mut [u64]) {
     }
 }
 
-// Entries: `a` source to tree, `b` to one expression, `c` to token list, `e` a string token decoded.
+// Entries: `a` source to tree, `b` to one expression, `c` to token list, `e` a string token decoded, `f` the number of a float.
 fn answer(entry: u8, source: &[u8], room: usize, table: &mut [u64]) {
     match entry {
         b'a' => tree(source, room, table),
         b'b' => expression(source, room, table),
         b'c' => print::answer_tokens(source, room),
         b'e' => print::answer_decode(source, room),
+        b'f' => print::answer_float(source),
         _ => {}
     }
 }
@@ -76,8 +96,9 @@ fn case(buffer: &mut [u8], table: &mut [u64]) -> bool {
         return false;
     }
     next_byte();
-    let length = figure();
-    let room = figure();
+    let first = figure();
+    let length = first.value;
+    let room = room_behind(first.behind);
     if buffer.len() < length {
         return false;
     }

@@ -1,4 +1,4 @@
--- Two answers that the C functions of (a) and (b) permit coincide, and so do the tables.
+-- Two answers that the C functions of (a) and (b) permit coincide, and so do the tables; and so do two answers to a float.
 use mathlib.Core.Path.{_≡_, sym, ap, _∙_}
 use mathlib.Core.List.{List}
 use mathlib.Core.Bool.{Bool, true}
@@ -6,10 +6,16 @@ use Prim.Native.Nat.{ℕ}
 use lib.Seq.{sets}
 use Rattle.tokens.specs.declared.Answer.{Answer}
 use Rattle.answers.proofs.Determined.{one-permitted}
-use Rattle.lekhyundo.specs.Numbers.{answerNumbers}
+use Rattle.literals.specs.declared.Answer as literals
+use Rattle.literals.proofs.Answered.{one-answer}
+use Rattle.lekhyundo.specs.Numbers.{answerNumbers, floatNumbers}
 use Rattle.lekhyundo.specs.Entered.{Entered}
+use Rattle.lekhyundo.specs.Floated.{Floated}
 
 pub one-entered : (tree : Bool) (s : List ℕ) (size : ℕ) {t u run x y : List ℕ} → Entered tree s size t run x → Entered tree s size u run y → (t ≡ u) × (x ≡ y)
 one-entered tree s size {run = run} a b =
     let k = one-permitted true tree s size (a .permitted) (b .permitted) in
     (k .1, a .numbers ∙ ap (λ (q : Answer). sets run 0 (answerNumbers q)) (k .0) ∙ sym (b .numbers))
+
+pub one-floated : (text : List ℕ) {run x y : List ℕ} → Floated text run x → Floated text run y → x ≡ y
+one-floated text {run} a b = a .numbers ∙ ap (λ (q : literals.Answer). sets run 0 (floatNumbers q)) (one-answer text (a .answer) (b .answer) (a .permitted) (b .permitted)) ∙ sym (b .numbers)

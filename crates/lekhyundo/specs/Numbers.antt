@@ -4,6 +4,7 @@ use mathlib.Core.List.{List, [], _∷_}
 use Rattle.tokens.specs.declared.Answer.{Answer}
 use Rattle.strings.specs.declared.Answer as strings
 use Rattle.values.specs.declared.Literal.{Literal}
+use Rattle.literals.specs.declared.Answer as literals
 use Rattle.tokens.specs.declared.Step.{Step}
 use Rattle.tokens.specs.declared.Step.the-variants.{Taken, Refused}
 
@@ -23,3 +24,7 @@ decodeNumbers a = a .number ∷ a .start ∷ a .end ∷ a .count ∷ []
 unfoldable pub literalNumbers : Literal → List ℕ
 literalNumbers (Literal.Is k v d) = 0 ∷ k ∷ v ∷ d ∷ []
 literalNumbers Literal.None = 7 ∷ 0 ∷ 0 ∷ 0 ∷ []
+
+-- a float literal's width and bits, behind its number and place
+unfoldable pub floatNumbers : literals.Answer → List ℕ
+floatNumbers a = a .number ∷ a .start ∷ a .end ∷ a .width ∷ a .bits ∷ []

@@ -10,6 +10,7 @@ ghost use Rattle.entry.specs.Entries.{nameText};
 ghost use Rattle.values.specs.Literals.{literalOf};
 ghost use Rattle.lekhyundo.specs.Numbers.{answerNumbers, stepNumbers, decodeNumbers, literalNumbers};
 ghost use Rattle.lekhyundo.specs.Entered.{Entered};
+ghost use Rattle.lekhyundo.specs.Floated.{Floated};
 use tokens::Answer;
 use tokens::Cursor;
 use tokens::Step;
@@ -137,4 +138,17 @@ pub extern "C" fn lekhyundo_name(s: &[u8], kind: u64, start: usize, end: usize) 
 {
     let text = entry::name_text(s, kind, start, end);
     text.len()
+}
+
+// C-17: the number of one float literal; number, start, end, width, bits.
+#[no_mangle]
+pub extern "C" fn lekhyundo_float(t: &[u8], answer: &mut [u64])
+    ensures { λ r. ⌜ Floated (now (t .entry)) (now (answer .entry)) (now (answer .exit)) ⌝ }
+{
+    let a = literals::float(t);
+    put(answer, 0, a.number);
+    put(answer, 1, a.start as u64);
+    put(answer, 2, a.end as u64);
+    put(answer, 3, a.width);
+    put(answer, 4, a.bits);
 }

@@ -11,15 +11,19 @@ fn number(n: u64) {
     io::print_decimal(STDOUT_FILENO, n);
 }
 
+fn refused(n: u64, start: usize, end: usize) {
+    io::write_all(STDOUT_FILENO, b"refused");
+    number(n);
+    number(start as u64);
+    number(end as u64);
+}
+
 // `accepted COUNT`, or `refused NUMBER START END`, and for 10 the count needed.
 fn head(a: Answer) {
     if a.number == 0 {
         io::write_all(STDOUT_FILENO, b"accepted");
     } else {
-        io::write_all(STDOUT_FILENO, b"refused");
-        number(a.number);
-        number(a.start as u64);
-        number(a.end as u64);
+        refused(a.number, a.start, a.end);
     }
     if (a.number == 0) | (a.number == 10) {
         number(a.count as u64);
@@ -139,4 +143,17 @@ pub fn answer_tree(s: &[u8], table: &mut [u64]) {
 pub fn answer_expression(s: &[u8], table: &mut [u64]) {
     let a = entry::expression(s, table);
     answer_rows(a, table);
+}
+
+// The number of a float literal: `accepted WIDTH BITS`, or the refusal.
+pub fn answer_float(t: &[u8]) {
+    let a = literals::float(t);
+    if a.number == 0 {
+        io::write_all(STDOUT_FILENO, b"accepted");
+        number(a.width);
+        number(a.bits);
+    } else {
+        refused(a.number, a.start, a.end);
+    }
+    io::write_all(STDOUT_FILENO, b"\n");
 }

@@ -25,7 +25,7 @@ Modes:
   damaged COUNT SEED             such texts, damaged
   values COUNT SEED              single literals, good and bad (entry b; strings by e too)
 Options:
-  -e ENTRY        a, b, c or e (else c for exhaustive and random, b for tokens, a and b by turns for the others)
+  -e ENTRY        a, b, c, e or f (else c for exhaustive and random, b for tokens, a and b by turns for the others)
   --list TOKENS   tokens for `tokens` instead of its own, a space between; \\x20 and the like stand for bytes
   --between TEXT  put between the tokens of a text instead of a space
   --before TEXT   put before each text of `tokens`

@@ -1,11 +1,11 @@
-//! Answers of the four entry points from the Rust's lexer and parser, for both programs.
+//! Answers of the entry points from the Rust's lexer and parser, for both programs.
 
 use std::panic::{AssertUnwindSafe, catch_unwind};
 
-use protocol::{Case, Found, Refusal, serve, time, write_bytes, write_refusal, write_rows};
+use protocol::{Case, Found, Refusal, serve, time, write_bytes, write_float, write_refusal, write_rows};
 
 use crate::{
-    ast::{Expr, Literal},
+    ast::{Expr, FloatType, Literal},
     parser::{
         ParseError, Parser,
         lexer::Lexer,
@@ -58,6 +58,7 @@ fn answer(whole: WholeSource, case: &Case<'_>, out: &mut String) {
     let length = case.source.len();
     let done = catch_unwind(AssertUnwindSafe(|| match case.entry {
         b'e' => write_bytes(out, decoded(whole, case.source).as_deref().map_err(|r| *r), case.room),
+        b'f' => write_float(out, float(whole, case.source)),
         b'c' => write_rows(out, &found(whole(case.source), tokens), case.room),
         b'b' => write_rows(out, &found(whole(case.source), expression), case.room),
         _ => write_rows(out, &found(whole(case.source), tree), case.room),
@@ -122,6 +123,32 @@ fn decoded(whole: WholeSource, token: &[u8]) -> Result<Vec<u8>, Refusal> {
     match parsed(&source).map_err(|_| refused)?.0.node {
         Expr::Literal(Meta { node: Literal::String(text), .. }) => Ok(text.into_bytes()),
         _ => Err(refused),
+    }
+}
+
+/// C-17: the width and bits of one float literal. Whether it is one is the lexer's and the parser's word. Document 02's digit rules and the
+/// suffix's own width are `crate::NARROWS`; the commit has an f64 whatever the suffix.
+fn float(whole: WholeSource, literal: &[u8]) -> Result<(u64, u64), Refusal> {
+    const MOST: usize = 19;
+    let refused = Refusal::new(7, 0, literal.len());
+    let source = whole(literal).map_err(|_| refused)?;
+    let text = match Lexer::new(0, source).next() {
+        Some((Ok(Token::Integer(text, _) | Token::Float(text, _)), span)) if span == (0..literal.len()) => text,
+        _ => return Err(refused),
+    };
+    let Expr::Literal(Meta { node: Literal::Float(value, suffix), .. }) = parsed(source).map_err(|_| refused)?.0.node
+    else {
+        return Err(refused);
+    };
+    let decimal = text.replace('_', "");
+    let (before, after) = decimal.split_once('.').unwrap_or((&decimal, ""));
+    let digits = format!("{before}{after}");
+    if crate::NARROWS && (digits.trim_start_matches('0').len() > MOST || after.len() > MOST) {
+        return Err(Refusal::new(14, 0, literal.len()));
+    }
+    match suffix {
+        Some(FloatType::F32) if crate::NARROWS => Ok((32, decimal.parse::<f32>().map_err(|_| refused)?.to_bits().into())),
+        _ => Ok((64, value.to_bits())),
     }
 }
 

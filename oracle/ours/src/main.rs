@@ -1,6 +1,6 @@
 //! Our own code behind the protocol: the compiled Rattle library, called as C calls it.
 
-use protocol::{Case, Refusal, serve, time, write_bytes, write_no_room, write_refusal, write_row};
+use protocol::{Case, Refusal, serve, time, write_bytes, write_float, write_no_room, write_refusal, write_row};
 
 mod word;
 
@@ -37,6 +37,8 @@ unsafe extern "C" {
     fn lekhyundo_decode(
         source: *const u8, length: usize, out: *mut u8, out_length: usize, answer: *mut u64, answer_length: usize,
     );
+    /// C-17; answer: number, start, end, width, bits.
+    fn lekhyundo_float(source: *const u8, length: usize, answer: *mut u64, answer_length: usize);
 }
 
 fn tokens(source: &[u8], list: &mut [Token]) -> [u64; 4] {
@@ -171,6 +173,19 @@ fn decode(case: &Case<'_>, out: &mut String) {
     }
 }
 
+/// C-17: the bits of a float literal; a refusal has no width and no bits, and the place is all bytes either way.
+fn float(case: &Case<'_>, out: &mut String) {
+    let mut answer = [u64::MAX; 5];
+    // SAFETY: as above.
+    unsafe { lekhyundo_float(case.source.as_ptr(), case.source.len(), answer.as_mut_ptr(), answer.len()) };
+    let [number, start, end, width, bits] = answer;
+    let found = if number == 0 { Ok((width, bits)) } else { Err(Refusal { number, start, end }) };
+    write_float(out, found);
+    if (start, end) != (0, case.source.len() as u64) || number != 0 && (width, bits) != (0, 0) {
+        out.push_str(&format!("number {number} has place {start} {end}, width {width}, bits {bits}\n"));
+    }
+}
+
 /// Into a list of exactly the tokens that there are.
 fn time_tokens(arguments: &[String]) -> std::io::Result<()> {
     let list = std::cell::RefCell::new(Vec::new());
@@ -207,6 +222,7 @@ fn main() -> std::io::Result<()> {
         _ => serve(|case, out| match case.entry {
             b'a' | b'b' => rows(case, out),
             b'c' => token_list(case, out),
+            b'f' => float(case, out),
             _ => decode(case, out),
         }),
     }

@@ -1,7 +1,7 @@
 //! The one protocol that the oracle, the full commit and our own code speak.
 //!
 //! Cases follow one another on standard input: a line `ENTRY LENGTH` or `ENTRY LENGTH ROOM`, then LENGTH bytes at
-//! once, then the next line. ENTRY is `a`, `b`, `c` or `e`; ROOM counts rows, tokens or bytes, enough if left out.
+//! once, then the next line. ENTRY is `a`, `b`, `c`, `e` or `f`; ROOM counts rows, tokens or bytes, enough if left out.
 //! Each answer ends in an empty line. See ../README.md.
 
 use std::{
@@ -76,6 +76,14 @@ pub fn write_bytes(out: &mut String, found: Result<&[u8], Refusal>, room: u64) {
     }
 }
 
+/// `accepted WIDTH BITS`.
+pub fn write_float(out: &mut String, found: Result<(u64, u64), Refusal>) {
+    match found {
+        Err(r) => write_refusal(out, r),
+        Ok((width, bits)) => writeln!(out, "accepted {width} {bits}").unwrap(),
+    }
+}
+
 pub fn write_refusal(out: &mut String, r: Refusal) {
     writeln!(out, "refused {} {} {}", r.number, r.start, r.end).unwrap();
 }
@@ -141,6 +149,7 @@ fn parse_header(line: &[u8]) -> Option<(u8, u64, u64)> {
         "b" => b'b',
         "c" => b'c',
         "e" => b'e',
+        "f" => b'f',
         _ => return None,
     };
     let length = parts.next()?.parse().ok()?;

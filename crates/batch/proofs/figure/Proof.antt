@@ -6,10 +6,10 @@ use Rattle.batch.proofs.figure.Reads as reads
 use Rattle.batch.proofs.figure.Lts as lts
 
 abbrev Inv-loop : tie.InvT-loop
-Inv-loop value₀ digits₀ value digits = Unit {0}
+Inv-loop value₀ behind₀ digits₀ value behind digits = Unit {0}
 
 abbrev μ-loop : tie.MeasureT-loop
-μ-loop value₀ digits₀ value digits = 7 - digits
+μ-loop value₀ behind₀ digits₀ value behind digits = 7 - digits
 
 loop-holds : tie.Need-loop-holds Inv-loop μ-loop
 loop-holds c = search needs

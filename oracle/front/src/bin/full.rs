@@ -15,6 +15,9 @@ use protocol::Refusal;
 /// The commit has a token for `f"`, with code 90 here.
 const LISTS_F_STRINGS: bool = true;
 
+/// The commit reads every float as an f64, of however many digits.
+const NARROWS: bool = false;
+
 /// The commit takes any text; bytes that are none have no answer there, and are given as 2 at the first of them.
 fn whole(source: &[u8]) -> Result<&str, Refusal> {
     std::str::from_utf8(source).map_err(|e| {

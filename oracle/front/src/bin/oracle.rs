@@ -17,6 +17,9 @@ const LONGEST: usize = 65_535;
 /// C-11: "5 remains for the token list only".
 const LISTS_F_STRINGS: bool = false;
 
+/// C-17: "An `f32` suffix gives the 32 bits of the nearest f32 to the decimal itself", and 14 for too many digits.
+const NARROWS: bool = true;
+
 /// "1, 2, 3 are tested first, in that order": longer than 65,535; byte of 128 or more; source begins `#!`.
 fn whole(source: &[u8]) -> Result<&str, Refusal> {
     if source.len() > LONGEST {
