@@ -3,7 +3,7 @@ use mathlib.Core.Path.{_≡_, refl, sym, ap, ap₂, _∙_, subst}
 use Prim.Native.Nat.{ℕ, zero, _+_, _-_, _*_, _/_, _%_, _<_, _≤_}
 use mathlib.Core.List.{List, [], _∷_, _++_}
 use mathlib.Core.Option.{Option, none, some}
-use mathlib.Core.Bool.{Bool, true, false}
+use mathlib.Core.Bool.{Bool, true, false, cond}
 use native.Mathlib.Nat.{le-trans, le-refl, add-zero, mod-lt, mod-eq-of-lt, div-eq-of-lt, mul-add-div-right, mul-add-mod-self-right}
 use native.Mathlib.Omega.{arith}
 use lib.ListN.{length, take, drop, length-append}
@@ -12,7 +12,7 @@ use lib.Dec.{eqb, lit<, lit≤}
 use borrow.Author.Tests.{eq-eqb, ne-eqb}
 use Rattle.chars.specs.Chars.{byteAt}
 use Rattle.chars.specs.Runs.{behindLast}
-use Rattle.numbers.specs.Digits.{choose, valueFrom, valueOf}
+use Rattle.numbers.specs.Digits.{valueFrom, valueOf}
 use Rattle.numbers.proofs.Choices.{so, first, second}
 use Rattle.addresses.specs.declared.Form.{Form}
 use Rattle.addresses.specs.declared.Wide.{Wide}
@@ -40,10 +40,10 @@ module _ (t : List ℕ) (at : ℕ) where
     front-one e h = second _ (ne-eqb _ _ (λ f. e (asked ∙ f))) h
 
   pub front-le : frontOf t at ≤ at
-  unfolding frontOf choose
+  unfolding frontOf
   front-le = go (eqb (byteAt t (at - 2)) 58)
     where
-      go : (u : Bool) → choose u at (at - 1) ≤ at
+      go : (u : Bool) → cond u at (at - 1) ≤ at
       go true = omega arith
       go false = omega arith
 

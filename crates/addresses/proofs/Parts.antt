@@ -3,7 +3,7 @@ use mathlib.Core.Path.{_≡_, refl, sym, ap, ap₂, _∙_, subst}
 use Prim.Native.Nat.{ℕ, suc, _+_, _-_, _*_, _/_, _<_, _≤_, suc-le-suc}
 use mathlib.Core.List.{List, [], _∷_}
 use mathlib.Core.Option.{Option, none, some}
-use mathlib.Core.Bool.{Bool, true, false, _&&_}
+use mathlib.Core.Bool.{Bool, true, false, _&&_, cond}
 use native.Mathlib.Nat.{le-trans, div-lt-iff-lt-mul}
 use native.Mathlib.Numerals.{add-one}
 use native.Mathlib.Decide.{ℕ-discrete}
@@ -15,7 +15,7 @@ use borrow.Author.Tests.{le-leb, lt-leb, leb-true, eq-eqb, ne-eqb}
 use Rattle.chars.specs.Chars.{byteAt}
 use Rattle.numbers.specs.declared.Base.{Base}
 use Rattle.numbers.specs.declared.Number.{Number}
-use Rattle.numbers.specs.Digits.{choose, numberOf, plain}
+use Rattle.numbers.specs.Digits.{numberOf, plain}
 use Rattle.numbers.specs.Texts.{ahead, untilByte}
 use Rattle.numbers.proofs.Choices.{so, first, second}
 use Rattle.numbers.proofs.Digits.{plain-whole, number-says}
@@ -89,19 +89,19 @@ topOf Form.Dotted = 255
 topOf Form.Hexed = 65535
 
 pub short-number : (n : Number) (most : ℕ) {v k : ℕ} → shortOf n most ≡ Number.Is v k → (n ≡ Number.Is v k) × (k ≤ most)
-unfolding shortOf choose
+unfolding shortOf
 short-number (Number.Is v n) most e = go (leb n most) refl e
   where
-    go : {w k : ℕ} (t : Bool) → leb n most ≡ t → choose t (Number.Is v n) Number.None ≡ Number.Is w k → (Number.Is v n ≡ Number.Is w k) × (k ≤ most)
+    go : {w k : ℕ} (t : Bool) → leb n most ≡ t → cond t (Number.Is v n) Number.None ≡ Number.Is w k → (Number.Is v n ≡ Number.Is w k) × (k ≤ most)
     go {w} {k} true f g = let q : n ≡ k = cc in (g, subst (λ m. m ≤ most) q (leb-true _ _ f))
     go {w} {k} false f g = let z : _≡_ {A = ℕ} 0 1 = cc in absurd (omega arith)
 short-number Number.None most e = let z : _≡_ {A = ℕ} 0 1 = cc in absurd (omega arith)
 
 pub group-top : (form : Form) (t : List ℕ) {v k : ℕ} → groupOf form t ≡ Number.Is v k → v ≤ topOf form
-unfolding groupOf choose
+unfolding groupOf
 group-top Form.Dotted t e = go (leadsZero (length t) (byteAt t 0)) e
   where
-    go : {v k : ℕ} (u : Bool) → choose u Number.None (shortOf (numberOf Base.Ten 255 t) 3) ≡ Number.Is v k → v ≤ 255
+    go : {v k : ℕ} (u : Bool) → cond u Number.None (shortOf (numberOf Base.Ten 255 t) 3) ≡ Number.Is v k → v ≤ 255
     go true f = let z : _≡_ {A = ℕ} 0 1 = cc in absurd (omega arith)
     go false f = number-says Base.Ten 255 t (short-number (numberOf Base.Ten 255 t) 3 f .0) .most
 group-top Form.Hexed t e = number-says Base.Sixteen 65535 t (short-number (numberOf Base.Sixteen 65535 t) 4 e .0) .most
@@ -115,8 +115,8 @@ group-fits form t e f = le-trans (suc-le-suc (group-top form t (so e f))) (go fo
 
 -- values heard one by one
 module _ (form : Form) (n : ℕ) (w : Wide) where
-  hear : {m : ℕ} → m ≡ n → (x : Wide) → choose (leb m 8) (Groups.Are m x) Groups.None ≡ choose (leb n 8) (Groups.Are n x) Groups.None
-  hear e x = ap (λ m. choose (leb m 8) (Groups.Are m x) Groups.None) e
+  hear : {m : ℕ} → m ≡ n → (x : Wide) → cond (leb m 8) (Groups.Are m x) Groups.None ≡ cond (leb n 8) (Groups.Are n x) Groups.None
+  hear e x = ap (λ m. cond (leb m 8) (Groups.Are m x) Groups.None) e
 
   pub heard-none : (o : Option (List ℕ)) → Groups.None ≡ heard form n w (before Number.None o)
   unfolding heard

@@ -3,7 +3,7 @@ use mathlib.Core.Path.{_≡_, refl, sym, ap, ap₂, _∙_, subst}
 use Prim.Native.Nat.{ℕ, suc, _+_, _<_, _≤_}
 use mathlib.Core.List.{List, [], _∷_, _++_, map}
 use mathlib.Core.Option.{Option, none, some}
-use mathlib.Core.Bool.{Bool, true, false}
+use mathlib.Core.Bool.{Bool, true, false, cond}
 use native.Mathlib.Decide.{ℕ-discrete}
 use native.Mathlib.Omega.{arith}
 use lib.ListN.{length, length-append}
@@ -12,7 +12,7 @@ use borrow.Author.Tests.{eq-eqb, eqb-true, ltb-true, le-ltb, lt-ltb, ne-eqb}
 use Rattle.chars.specs.Chars.{byteAt}
 use Rattle.numbers.specs.declared.Base.{Base}
 use Rattle.numbers.specs.declared.Number.{Number}
-use Rattle.numbers.specs.Digits.{choose, digitOf, valueOf, allBelow, numberOf}
+use Rattle.numbers.specs.Digits.{digitOf, valueOf, allBelow, numberOf}
 use Rattle.numbers.proofs.Choices.{first, second, and-left, and-right, and, not-left, not-right}
 use Rattle.numbers.proofs.Digits.{Says, number-says, says-number}
 use Rattle.addresses.specs.declared.Form.{Form}
@@ -50,7 +50,7 @@ digits-apart base sep k [] h = tt
 digits-apart base sep k (b ∷ t) h = (λ e. omega (arith, k, ap digitOf e, digits-head base b t h), digits-apart base sep k t (digits-tail base b t h))
 
 pub signs-none : (digitOf 46 ≡ 16) × (digitOf 58 ≡ 16)
-unfolding digitOf choose
+unfolding digitOf
 signs-none = (refl, refl)
 
 -- parts put together again
@@ -143,11 +143,11 @@ unfolding exactly
 exactly-are n h = sym (first none (eq-eqb _ _ h) refl)
 
 pub exactly-says : (n : ℕ) (o : Option (List ℕ)) {vs : List ℕ} → exactly n o ≡ some vs → (o ≡ some vs) × (length vs ≡ n)
-unfolding exactly choose
+unfolding exactly
 exactly-says n none e = let z : _≡_ {A = ℕ} 0 1 = cc in absurd (omega arith)
 exactly-says n (some ws) {vs} e = go (eqb (length ws) n) refl e
   where
-    go : (u : Bool) → eqb (length ws) n ≡ u → choose u (some ws) none ≡ some vs → (some ws ≡ some vs) × (length vs ≡ n)
+    go : (u : Bool) → eqb (length ws) n ≡ u → cond u (some ws) none ≡ some vs → (some ws ≡ some vs) × (length vs ≡ n)
     go true f h = (h, subst (λ l. length l ≡ n) (some-same h) (eqb-true _ _ f))
     go false f h = let z : _≡_ {A = ℕ} 0 1 = cc in absurd (omega arith)
 
@@ -156,10 +156,10 @@ no-zero : (t : List ℕ) → leadsZero (length t) (byteAt t 0) ≡ false → 1 <
 no-zero t e h k = let z : true ≡ false = sym (and (lt-ltb 1 (length t) h) (eq-eqb _ _ k)) ∙ e in let y : _≡_ {A = ℕ} 0 1 = cc in omega arith
 
 octet-sound : {t : List ℕ} {v k : ℕ} → groupOf Form.Dotted t ≡ Number.Is v k → Octet t v
-unfolding groupOf choose
+unfolding groupOf
 octet-sound {t} {v} {k} e = go (leadsZero (length t) (byteAt t 0)) refl e
   where
-    go : (u : Bool) → leadsZero (length t) (byteAt t 0) ≡ u → choose u Number.None (shortOf (numberOf Base.Ten 255 t) 3) ≡ Number.Is v k → Octet t v
+    go : (u : Bool) → leadsZero (length t) (byteAt t 0) ≡ u → cond u Number.None (shortOf (numberOf Base.Ten 255 t) 3) ≡ Number.Is v k → Octet t v
     go true f h = let z : _≡_ {A = ℕ} 0 1 = cc in absurd (omega arith)
     go false f h =
         let q = short-number (numberOf Base.Ten 255 t) 3 h in

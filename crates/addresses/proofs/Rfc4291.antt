@@ -3,7 +3,7 @@ use mathlib.Core.Path.{_≡_, refl, sym, ap, ap₂, _∙_, subst}
 use Prim.Native.Nat.{ℕ, zero, suc, _+_, _-_, _<_, _≤_}
 use mathlib.Core.List.{List, [], _∷_, _++_, map, append-assoc, append-nil}
 use mathlib.Core.Option.{Option, none, some}
-use mathlib.Core.Bool.{Bool, true, false}
+use mathlib.Core.Bool.{Bool, true, false, cond}
 use native.Mathlib.Nat.{add-zero, zero-add, suc-add}
 use native.Mathlib.Decide.{ℕ-discrete}
 use native.Mathlib.Omega.{arith}
@@ -16,7 +16,7 @@ use Rattle.chars.specs.Runs.{behindLast}
 use Rattle.chars.proofs.Runs.{byte-in, byte-out, last-here, last-back, last-le, last-stands}
 use Rattle.numbers.specs.declared.Base.{Base}
 use Rattle.numbers.specs.declared.Number.{Number}
-use Rattle.numbers.specs.Digits.{choose, digitOf, valueFrom, valueOf, allBelow, numberOf}
+use Rattle.numbers.specs.Digits.{digitOf, valueFrom, valueOf, allBelow, numberOf}
 use Rattle.numbers.proofs.Choices.{first, second, and-left, and-right, not-left, not-right}
 use Rattle.numbers.proofs.Digits.{Says, number-says, says-number}
 use Rattle.numbers.proofs.Texts.{byte-behind}
@@ -120,11 +120,11 @@ some-text (more {t} {u} g j) e = omega (arith, e, length-append t (58 ∷ u))
 
 side-complete : {t : List ℕ} {vs : List ℕ} → Side t vs → sideOf t ≡ some vs
 unfolding sideOf
-side-complete empty = sym (first _ refl refl)
+side-complete empty = refl
 side-complete (groups {t} {vs} j) = sym (second _ (ne-eqb (length t) 0 (some-text j)) (sym (joined-complete group-reads j)))
 
 side-sound : (t : List ℕ) {vs : List ℕ} → sideOf t ≡ some vs → Side t vs
-unfolding sideOf choose
+unfolding sideOf
 side-sound [] {vs} e = subst (Side []) (some-same e) empty
 side-sound (b ∷ t) {vs} e = groups (joined-sound group-reads (b ∷ t) (second (some []) (ne-eqb (suc (length t)) 0 (λ q. omega (arith, q))) refl ∙ e))
 
@@ -134,13 +134,13 @@ two-colons [] e f = absurd (omega (arith, sym (byte-out [] 0 (omega arith)) ∙ 
 two-colons (c ∷ l) e f = ap₂ (λ x y. x ∷ y ∷ l) e (sym (byte-in (c ∷ l) 0 (omega arith)) ∙ f)
 
 gap-split : (l : List ℕ) → gap l < length l → l ≡ take (gap l) l ++ 58 ∷ 58 ∷ drop (gap l + 2) l
-unfolding gap choose
+unfolding gap
 gap-split [] h = absurd (omega (arith, h))
 gap-split (b ∷ l) h = go (colons b (byteAt l 0)) refl h (gap-split l)
   where
-    go : (u : Bool) → colons b (byteAt l 0) ≡ u → choose u 0 (suc (gap l)) < suc (length l)
+    go : (u : Bool) → colons b (byteAt l 0) ≡ u → cond u 0 (suc (gap l)) < suc (length l)
         → (gap l < length l → l ≡ take (gap l) l ++ 58 ∷ 58 ∷ drop (gap l + 2) l)
-        → b ∷ l ≡ take (choose u 0 (suc (gap l))) (b ∷ l) ++ 58 ∷ 58 ∷ drop (choose u 0 (suc (gap l)) + 2) (b ∷ l)
+        → b ∷ l ≡ take (cond u 0 (suc (gap l))) (b ∷ l) ++ 58 ∷ 58 ∷ drop (cond u 0 (suc (gap l)) + 2) (b ∷ l)
     go true e k ih = two-colons l (eqb-true b 58 (and-left (eqb b 58) (eqb (byteAt l 0) 58) e)) (eqb-true (byteAt l 0) 58 (and-right (eqb b 58) (eqb (byteAt l 0) 58) e))
     go false e k ih =
         let q : suc (gap l + 2) ≡ suc (gap l) + 2 = omega arith in
@@ -177,12 +177,12 @@ record Beside (n : ℕ) (L R : Option (List ℕ)) (vs : List ℕ) : Type 0 where
   all : left ++ replicate (n - (length left + length right)) 0 ++ right ≡ vs
 
 beside : (n : ℕ) (L R : Option (List ℕ)) {vs : List ℕ} → filled n L R ≡ some vs → Beside n L R vs
-unfolding filled choose
+unfolding filled
 beside n none R e = let z : _≡_ {A = ℕ} 0 1 = cc in absurd (omega arith)
 beside n (some us) none e = let z : _≡_ {A = ℕ} 0 1 = cc in absurd (omega arith)
 beside n (some us) (some bs) {vs} e = go (ltb (length us + length bs) n) refl e
   where
-    go : (u : Bool) → ltb (length us + length bs) n ≡ u → choose u (some (us ++ replicate (n - (length us + length bs)) 0 ++ bs)) none ≡ some vs → Beside n (some us) (some bs) vs
+    go : (u : Bool) → ltb (length us + length bs) n ≡ u → cond u (some (us ++ replicate (n - (length us + length bs)) 0 ++ bs)) none ≡ some vs → Beside n (some us) (some bs) vs
     go true f h = record { left = us; right = bs; left-is = refl; right-is = refl; few = ltb-true _ _ f; all = some-same h }
     go false f h = let z : _≡_ {A = ℕ} 0 1 = cc in absurd (omega arith)
 
@@ -194,11 +194,11 @@ short-sound n t {vs} h e =
     subst (λ l. Pieces n l vs) (sym (gap-split t h)) (subst (Pieces n (take (gap t) t ++ 58 ∷ 58 ∷ drop (gap t + 2) t)) (s .all) a)
 
 pieces-sound : (n : ℕ) (t : List ℕ) {vs : List ℕ} → groupsIn n t ≡ some vs → Pieces n t vs
-unfolding groupsIn choose
+unfolding groupsIn
 pieces-sound n t {vs} e = go (ltb (gap t) (length t)) refl e
   where
     go : (u : Bool) → ltb (gap t) (length t) ≡ u
-        → choose u (filled n (sideOf (take (gap t) t)) (sideOf (drop (gap t + 2) t))) (exactly n (valuesOf Form.Hexed (parts 58 t))) ≡ some vs
+        → cond u (filled n (sideOf (take (gap t) t)) (sideOf (drop (gap t + 2) t))) (exactly n (valuesOf Form.Hexed (parts 58 t))) ≡ some vs
         → Pieces n t vs
     go true f h = short-sound n t (ltb-true (gap t) (length t) f) h
     go false f h = let q = exactly-says n (valuesOf Form.Hexed (parts 58 t)) h in all-of (joined-sound group-reads t (q .0)) (q .1)
@@ -410,13 +410,13 @@ module _ (t : List ℕ) {at : ℕ} (k : 0 < at) (le : at ≤ length t) (colon : 
 
 mixed-cut : (t : List ℕ) {at : ℕ} {ws os : List ℕ} → at ≤ length t → (0 < at → byteAt t (at - 1) ≡ 58)
     → Pieces 6 (take (frontOf t at) t) ws → IPv4 (drop at t) os → IPv6 t (ws ++ paired os)
-unfolding frontOf choose
+unfolding frontOf
 mixed-cut t {at} {ws} {os} le colon p i = elim (ℕ-discrete at 0) [
   | yes z ↦ absurd (pieces-text p (omega (arith, z, front-le t at, length-take-le (frontOf t at) t (omega (arith, le, front-le t at)))))
   | no z ↦ go (omega (arith, z)) (eqb (byteAt t (at - 2)) 58) refl p
 ]
   where
-    go : 0 < at → (u : Bool) → eqb (byteAt t (at - 2)) 58 ≡ u → Pieces 6 (take (choose u at (at - 1)) t) ws → IPv6 t (ws ++ paired os)
+    go : 0 < at → (u : Bool) → eqb (byteAt t (at - 2)) 58 ≡ u → Pieces 6 (take (cond u at (at - 1)) t) ws → IPv6 t (ws ++ paired os)
     go k true e p =
         subst (λ l. IPv6 l (ws ++ paired os))
         (ap (λ l. l ++ drop at t) (cut-colon t k le (colon k)) ∙ append-assoc (take (at - 1) t) (58 ∷ []) (drop at t) ∙ sym (cut t k le (colon k)))

@@ -3,7 +3,7 @@ use mathlib.Core.Path.{_≡_, refl, sym, ap, ap₂, _∙_, subst}
 use Prim.Native.Nat.{ℕ, zero, suc, _+_, _-_, _*_, _/_, _%_, _<_, _≤_, suc-le-suc}
 use mathlib.Core.List.{List, [], _∷_, _++_}
 use mathlib.Core.Option.{Option, none, some}
-use mathlib.Core.Bool.{Bool, true, false, _&&_}
+use mathlib.Core.Bool.{Bool, true, false, _&&_, cond}
 use native.Mathlib.Nat.{add-zero, zero-add, mod-eq-of-lt, div-eq-of-lt, mul-add-div-right, mul-add-mod-self-right}
 use native.Mathlib.Numerals.{add-one}
 use native.Mathlib.Decide.{ℕ-discrete}
@@ -15,7 +15,7 @@ use borrow.Author.Tests.{le-leb, leb-true, leb-false, eq-eqb, ne-eqb, eqb-true, 
 use Rattle.chars.specs.Chars.{byteAt}
 use Rattle.chars.proofs.Runs.{byte-in, within}
 use Rattle.numbers.specs.declared.Number.{Number}
-use Rattle.numbers.specs.Digits.{choose, valueFrom, valueOf}
+use Rattle.numbers.specs.Digits.{valueFrom, valueOf}
 use Rattle.numbers.proofs.Choices.{so, first, second, and-right}
 use Rattle.numbers.proofs.Texts.{byte-behind}
 use Rattle.addresses.specs.declared.Form.{Form}
@@ -50,11 +50,11 @@ module _ (t : List ℕ) (i : ℕ) where
 
 -- a gap has both its colons
 pub gap-whole : (l : List ℕ) → gap l < length l → gap l + 2 ≤ length l
-unfolding gap choose
+unfolding gap
 gap-whole [] h = absurd (omega (arith, h))
 gap-whole (b ∷ l) h = go (colons b (byteAt l 0)) refl h (gap-whole l)
   where
-    go : (u : Bool) → colons b (byteAt l 0) ≡ u → choose u 0 (suc (gap l)) < suc (length l) → (gap l < length l → gap l + 2 ≤ length l) → choose u 0 (suc (gap l)) + 2 ≤ suc (length l)
+    go : (u : Bool) → colons b (byteAt l 0) ≡ u → cond u 0 (suc (gap l)) < suc (length l) → (gap l < length l → gap l + 2 ≤ length l) → cond u 0 (suc (gap l)) + 2 ≤ suc (length l)
     go true e k ih = omega (arith, within (λ n. eqb n 58) refl l 0 (and-right (eqb b 58) (eqb (byteAt l 0) 58) e))
     go false e k ih = omega (arith, ih (omega (arith, k)))
 
@@ -62,7 +62,7 @@ gap-whole (b ∷ l) h = go (colons b (byteAt l 0)) refl h (gap-whole l)
 module _ (n : ℕ) (w : Wide) (t : List ℕ) where
   pub side-empty : length t ≡ 0 → n ≤ 8 → Groups.Are n w ≡ heard Form.Hexed n w (sideOf t)
   unfolding sideOf heard pushAll
-  side-empty e h = first Groups.None (le-leb n 8 h) refl ∙ sym (ap (λ m. choose (leb m 8) (Groups.Are m w) Groups.None) (add-zero n)) ∙ ap (heard Form.Hexed n w) (first (valuesOf Form.Hexed (parts 58 t)) (eq-eqb _ _ e) refl)
+  side-empty e h = first Groups.None (le-leb n 8 h) refl ∙ sym (ap (λ m. cond (leb m 8) (Groups.Are m w) Groups.None) (add-zero n)) ∙ ap (heard Form.Hexed n w) (first (valuesOf Form.Hexed (parts 58 t)) (eq-eqb _ _ e) refl)
 
   pub side-groups : {r : Groups} → (length t ≡ 0 → ⊥) → r ≡ heard Form.Hexed n w (valuesOf Form.Hexed (parts 58 t)) → r ≡ heard Form.Hexed n w (sideOf t)
   unfolding sideOf
@@ -94,11 +94,11 @@ module _ (form : Form) (n : ℕ) (w : Wide) where
   Said o Groups.None = (vs : List ℕ) → o ≡ some vs → 8 < n + length vs
 
   said : (o : Option (List ℕ)) → Said o (heard form n w o)
-  unfolding heard choose
+  unfolding heard
   said none = λ vs e. let z : _≡_ {A = ℕ} 0 1 = cc in absurd (omega arith)
   said (some vs) = go (leb (n + length vs) 8) refl
     where
-      go : (t : Bool) → leb (n + length vs) 8 ≡ t → Said (some vs) (choose t (Groups.Are (n + length vs) (pushAll form w vs)) Groups.None)
+      go : (t : Bool) → leb (n + length vs) 8 ≡ t → Said (some vs) (cond t (Groups.Are (n + length vs) (pushAll form w vs)) Groups.None)
       go true e = record { vs = vs; are = refl; count = refl; wide = refl; few = leb-true _ _ e }
       go false e = λ ws f. subst (λ l. 8 < n + length l) (some-same f) (leb-false _ _ e)
 
@@ -160,7 +160,7 @@ module _ {m : ℕ} (top : m ≤ 8) (L R : Option (List ℕ)) (w : Wide) {c d : �
       ∙ sym (push-append Form.Hexed w (vs ++ zs) ws ∙ ap (λ p. pushAll Form.Hexed p ws) (push-append Form.Hexed w vs zs)) in
       e
       ∙ ap (heard Form.Hexed (m - d) u) (hr .are)
-      ∙ ap₂ (λ n p. choose (leb n 8) (Groups.Are n p) Groups.None) (n ∙ sym k) q
+      ∙ ap₂ (λ n p. cond (leb n 8) (Groups.Are n p) Groups.None) (n ∙ sym k) q
       ∙ sym (ap (heard Form.Hexed 0 w) (filled-by ∙ filled-are m vs ws (omega (arith, h))))
 
 -- so many groups, or none
@@ -205,15 +205,15 @@ all-zeros r zero h = tt
 all-zeros r (suc n) h = (h, all-zeros r n h)
 
 side-below : (t : List ℕ) → Below 65536 (sideOf t)
-unfolding sideOf choose
+unfolding sideOf
 side-below t = go (eqb (length t) 0)
   where
-    go : (u : Bool) → Below 65536 (choose u (some []) (valuesOf Form.Hexed (parts 58 t)))
+    go : (u : Bool) → Below 65536 (cond u (some []) (valuesOf Form.Hexed (parts 58 t)))
     go true = tt
     go false = values-below Form.Hexed (parts 58 t)
 
 filled-below : (m : ℕ) (L R : Option (List ℕ)) → Below 65536 L → Below 65536 R → Below 65536 (filled m L R)
-unfolding filled choose
+unfolding filled
 filled-below m none R h k = tt
 filled-below m (some vs) none h k = tt
 filled-below m (some vs) (some ws) h k = go (ltb (length vs + length ws) m)
@@ -221,7 +221,7 @@ filled-below m (some vs) (some ws) h k = go (ltb (length vs + length ws) m)
     zs : List ℕ
     zs = replicate (m - (length vs + length ws)) 0
 
-    go : (u : Bool) → Below 65536 (choose u (some (vs ++ zs ++ ws)) none)
+    go : (u : Bool) → Below 65536 (cond u (some (vs ++ zs ++ ws)) none)
     go true = all-append 65536 (vs ++ zs) ws (all-append 65536 vs zs h (all-zeros 65536 (m - (length vs + length ws)) (lit< tt))) k
     go false = tt
 
@@ -294,7 +294,7 @@ eight-halves (a ∷ b ∷ c ∷ d ∷ f ∷ g ∷ h ∷ i ∷ j ∷ vs) e s = ab
 -- what was heard, where so many are wanted
 module _ {m : ℕ} (top : m ≤ 8) where
   abbrev one-two : List ℕ → Bool → Groups
-  one-two vs u = choose u (Groups.Are (0 + length vs) (pushAll Form.Hexed spec.zero vs)) Groups.None
+  one-two vs u = cond u (Groups.Are (0 + length vs) (pushAll Form.Hexed spec.zero vs)) Groups.None
 
   only-these : (vs : List ℕ) → length vs ≡ m → onlyOf m (heard Form.Hexed 0 spec.zero (some vs)) ≡ heard Form.Hexed 0 spec.zero (some vs)
   unfolding heard
@@ -303,7 +303,7 @@ module _ {m : ℕ} (top : m ≤ 8) where
       sym (only-is m (sym k) (zero-add (length vs) ∙ e)) ∙ k
 
   only-others : (vs : List ℕ) → (length vs ≡ m → ⊥) → onlyOf m (heard Form.Hexed 0 spec.zero (some vs)) ≡ Groups.None
-  unfolding heard onlyOf choose
+  unfolding heard onlyOf
   only-others vs f = go (leb (0 + length vs) 8)
     where
       go : (u : Bool) → onlyOf m (one-two vs u) ≡ Groups.None
@@ -338,11 +338,11 @@ module _ (m : ℕ) where
   Sized none = Unit {0}
 
   exactly-all : (r : ℕ) (o : Option (List ℕ)) → Below r o → Sized (exactly m o) × Below r (exactly m o)
-  unfolding exactly choose
+  unfolding exactly
   exactly-all r none h = (tt, tt)
   exactly-all r (some vs) h = go (eqb (length vs) m) refl
     where
-      go : (u : Bool) → eqb (length vs) m ≡ u → Sized (choose u (some vs) none) × Below r (choose u (some vs) none)
+      go : (u : Bool) → eqb (length vs) m ≡ u → Sized (cond u (some vs) none) × Below r (cond u (some vs) none)
       go true e = (eqb-true _ _ e, h)
       go false e = (tt, tt)
 
@@ -353,7 +353,7 @@ module _ (m : ℕ) where
   exactly-below r o h e = subst (Below r) e (exactly-all r o h .1)
 
   filled-sized : (L R : Option (List ℕ)) → Sized (filled m L R)
-  unfolding filled choose
+  unfolding filled
   filled-sized none R = tt
   filled-sized (some vs) none = tt
   filled-sized (some vs) (some ws) = go (ltb (length vs + length ws) m) refl
@@ -361,14 +361,14 @@ module _ (m : ℕ) where
       zs : List ℕ
       zs = replicate (m - (length vs + length ws)) 0
 
-      go : (u : Bool) → ltb (length vs + length ws) m ≡ u → Sized (choose u (some (vs ++ zs ++ ws)) none)
+      go : (u : Bool) → ltb (length vs + length ws) m ≡ u → Sized (cond u (some (vs ++ zs ++ ws)) none)
       go true e =
           let h : length vs + length ws < m = ltb-true _ _ e in
           omega (arith, length-append (vs ++ zs) ws, length-append vs zs, length-replicate {A = ℕ} (m - (length vs + length ws)) 0)
       go false e = tt
 
   groups-all : (t : List ℕ) → Sized (groupsIn m t) × Below 65536 (groupsIn m t)
-  unfolding groupsIn choose
+  unfolding groupsIn
   groups-all t = go (ltb (gap t) (length t))
     where
       L : Option (List ℕ)
@@ -380,7 +380,7 @@ module _ (m : ℕ) where
       all : Option (List ℕ)
       all = valuesOf Form.Hexed (parts 58 t)
 
-      go : (u : Bool) → Sized (choose u (filled m L R) (exactly m all)) × Below 65536 (choose u (filled m L R) (exactly m all))
+      go : (u : Bool) → Sized (cond u (filled m L R) (exactly m all)) × Below 65536 (cond u (filled m L R) (exactly m all))
       go true = (filled-sized L R, filled-below m L R (side-below (take (gap t) t)) (side-below (drop (gap t + 2) t)))
       go false = exactly-all 65536 all (values-below Form.Hexed (parts 58 t))
 

@@ -2,12 +2,12 @@
 use Prim.Native.Nat.{ℕ, suc, _+_, _-_, _/_, _%_}
 use mathlib.Core.List.{List, [], _∷_, _++_}
 use mathlib.Core.Option.{Option, none, some}
-use mathlib.Core.Bool.{_&&_}
+use mathlib.Core.Bool.{_&&_, cond}
 use lib.ListN.{length, take, drop, replicate}
 use lib.Dec.{eqb, ltb}
 use Rattle.chars.specs.Chars.{byteAt}
 use Rattle.chars.specs.Runs.{behindLast}
-use Rattle.numbers.specs.Digits.{choose, valueOf}
+use Rattle.numbers.specs.Digits.{valueOf}
 use Rattle.addresses.specs.declared.Form.{Form}
 use Rattle.addresses.specs.declared.Wide.{Wide}
 use Rattle.addresses.specs.declared.Quad.{Quad}
@@ -17,7 +17,7 @@ use Rattle.addresses.specs.Quads.{paired}
 
 -- as many values as are wanted, or none
 unfoldable pub exactly : ℕ → Option (List ℕ) → Option (List ℕ)
-exactly n (some vs) = choose (eqb (length vs) n) (some vs) none
+exactly n (some vs) = cond (eqb (length vs) n) (some vs) none
 exactly n none = none
 
 -- the four octets of a dotted quad
@@ -35,15 +35,15 @@ quadOf text = asQuad (octetsOf text)
 -- the place of the first `::`, or the end
 unfoldable pub gap : List ℕ → ℕ
 gap [] = 0
-gap (b ∷ l) = let rest : ℕ = suc (gap l) in choose (eqb b 58 && eqb (byteAt l 0) 58) 0 rest
+gap (b ∷ l) = let rest : ℕ = suc (gap l) in cond (eqb b 58 && eqb (byteAt l 0) 58) 0 rest
 
 -- the groups on one side of the `::`; there may be none
 unfoldable pub sideOf : List ℕ → Option (List ℕ)
-sideOf text = choose (eqb (length text) 0) (some []) (valuesOf Form.Hexed (parts 58 text))
+sideOf text = cond (eqb (length text) 0) (some []) (valuesOf Form.Hexed (parts 58 text))
 
 -- "one `::` for one or more zero groups": fewer than n groups beside it, where n are wanted
 unfoldable pub filled : ℕ → Option (List ℕ) → Option (List ℕ) → Option (List ℕ)
-filled n (some vs) (some ws) = choose (ltb (length vs + length ws) n) (some (vs ++ replicate (n - (length vs + length ws)) 0 ++ ws)) none
+filled n (some vs) (some ws) = cond (ltb (length vs + length ws) n) (some (vs ++ replicate (n - (length vs + length ws)) 0 ++ ws)) none
 filled n (some vs) none = none
 filled n none right = none
 
@@ -51,11 +51,11 @@ filled n none right = none
 unfoldable pub groupsIn : ℕ → List ℕ → Option (List ℕ)
 groupsIn n text =
     let at : ℕ = gap text in
-    choose (ltb at (length text)) (filled n (sideOf (take at text)) (sideOf (drop (at + 2) text))) (exactly n (valuesOf Form.Hexed (parts 58 text)))
+    cond (ltb at (length text)) (filled n (sideOf (take at text)) (sideOf (drop (at + 2) text))) (exactly n (valuesOf Form.Hexed (parts 58 text)))
 
 -- how far the groups reach before a quad that starts at a place: to the colon between them, but a `::` there is theirs
 unfoldable pub frontOf : List ℕ → ℕ → ℕ
-frontOf text at = choose (eqb (byteAt text (at - 2)) 58) at (at - 1)
+frontOf text at = cond (eqb (byteAt text (at - 2)) 58) at (at - 1)
 
 abbrev pub joinQuad : Option (List ℕ) → List ℕ → Option (List ℕ)
 joinQuad (some vs) os = some (vs ++ paired os)

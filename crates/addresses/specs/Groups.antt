@@ -2,13 +2,13 @@
 use Prim.Native.Nat.{ℕ, _+_, _*_, _/_, _%_}
 use mathlib.Core.List.{List, [], _∷_}
 use mathlib.Core.Option.{Option, none, some}
-use mathlib.Core.Bool.{_&&_}
+use mathlib.Core.Bool.{_&&_, cond}
 use lib.ListN.{length}
 use lib.Dec.{eqb, ltb, leb}
 use Rattle.chars.specs.Chars.{byteAt}
 use Rattle.numbers.specs.declared.Base.{Base}
 use Rattle.numbers.specs.declared.Number.{Number}
-use Rattle.numbers.specs.Digits.{choose, numberOf}
+use Rattle.numbers.specs.Digits.{numberOf}
 use Rattle.addresses.specs.declared.Form.{Form}
 use Rattle.addresses.specs.declared.Wide.{Wide}
 use Rattle.addresses.specs.declared.Groups.{Groups}
@@ -18,12 +18,12 @@ separatorOf Form.Dotted = 46
 separatorOf Form.Hexed = 58
 
 unfoldable pub shortOf : Number → ℕ → Number
-shortOf (Number.Is v n) most = choose (leb n most) (Number.Is v n) Number.None
+shortOf (Number.Is v n) most = cond (leb n most) (Number.Is v n) Number.None
 shortOf Number.None most = Number.None
 
 -- "octets of 1 to 3 digits, at most 255, no leading zero but `0`"; "groups of 1 to 4 digits"
 unfoldable pub groupOf : Form → List ℕ → Number
-groupOf Form.Dotted text = choose (ltb 1 (length text) && eqb (byteAt text 0) 48) Number.None (shortOf (numberOf Base.Ten 255 text) 3)
+groupOf Form.Dotted text = cond (ltb 1 (length text) && eqb (byteAt text 0) 48) Number.None (shortOf (numberOf Base.Ten 255 text) 3)
 groupOf Form.Hexed text = shortOf (numberOf Base.Sixteen 65535 text) 4
 
 -- a byte before the first part
@@ -34,7 +34,7 @@ onto b (p ∷ ps) = (b ∷ p) ∷ ps
 -- the parts of a text between separators
 unfoldable pub parts : ℕ → List ℕ → List (List ℕ)
 parts sep [] = [] ∷ []
-parts sep (b ∷ l) = let rest : List (List ℕ) = parts sep l in choose (eqb b sep) ([] ∷ rest) (onto b rest)
+parts sep (b ∷ l) = let rest : List (List ℕ) = parts sep l in cond (eqb b sep) ([] ∷ rest) (onto b rest)
 
 abbrev pub before : Number → Option (List ℕ) → Option (List ℕ)
 before (Number.Is v n) (some vs) = some (v ∷ vs)
@@ -57,12 +57,12 @@ pushAll form w (v ∷ vs) = pushAll form (pushOf form w v) vs
 
 -- values behind n others that write w: at most eight in all
 unfoldable pub heard : Form → ℕ → Wide → Option (List ℕ) → Groups
-heard form n w (some vs) = choose (leb (n + length vs) 8) (Groups.Are (n + length vs) (pushAll form w vs)) Groups.None
+heard form n w (some vs) = cond (leb (n + length vs) 8) (Groups.Are (n + length vs) (pushAll form w vs)) Groups.None
 heard form n w none = Groups.None
 
 -- the groups where there are n of them
 unfoldable pub onlyOf : ℕ → Groups → Groups
-onlyOf n (Groups.Are c w) = choose (eqb c n) (Groups.Are c w) Groups.None
+onlyOf n (Groups.Are c w) = cond (eqb c n) (Groups.Are c w) Groups.None
 onlyOf n Groups.None = Groups.None
 
 abbrev pub zero : Wide

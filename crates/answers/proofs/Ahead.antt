@@ -1,8 +1,8 @@
--- What the lexer says at a place: a token has a byte at least, ends within the source, and its word is above 0 and below 99; else it
+-- What the lexer says at a place: a token has a byte at least, ends within the source, and its word is above 0 and below 90; else it
 -- is the end, or a refusal 4 or 5; 5 has two bytes of the source. And what is scanned as text.
 use mathlib.Core.Path.{_≡_, refl, sym, ap, subst, _∙_}
 use mathlib.Core.List.{List, [], _∷_}
-use mathlib.Core.Bool.{Bool, true, false, not, _&&_, _||_}
+use mathlib.Core.Bool.{Bool, true, false, not, _&&_, _||_, cond}
 use mathlib.Core.Logic.{_⊎_, inl, inr}
 use Prim.Native.Nat.{ℕ, zero, suc, _+_, _-_, _≤_, _<_}
 use lib.Dec.{T, eqb, ltb, ltb→lt, eqb→eq}
@@ -11,13 +11,12 @@ use lib.Seq.{slice, slice-empty}
 use native.Mathlib.Decide.{decLe}
 use native.Mathlib.Omega.{arith}
 use Rattle.chars.specs.declared.Class.the-variants.{Digit, Figure, HexDigit, HexColon, NamePart}
-use Rattle.chars.specs.Chars.{pick, byteAt, isClass, isDigit, isLetter}
+use Rattle.chars.specs.Chars.{byteAt, isClass, isDigit, isLetter}
 use Rattle.chars.specs.Runs.{pastSpan, pastRun}
 use Rattle.chars.specs.Texts.{bytes, same}
 use Rattle.chars.proofs.Runs.{byte-out, outside, within, past-ge, past-le, past-gt, span-ge}
 use Rattle.tokens.specs.declared.Fit.{Fit}
 use Rattle.tokens.specs.declared.Fit.the-variants.{To, No}
-use Rattle.tokens.specs.declared.Token.{Token}
 use Rattle.tokens.specs.declared.Cursor.{Cursor}
 use Rattle.tokens.specs.declared.Refusal.{Refusal}
 use Rattle.tokens.specs.declared.Step.{Step}
@@ -36,7 +35,7 @@ use Rattle.texts.specs.Texts.{halved, textOf}
 use Rattle.texts.proofs.Parts.{Parted, parted-before, parted-ends, parted-none, part-lies}
 use Rattle.grammar.specs.Words.{text-then-hole, last-text}
 use Rattle.grammar.specs.Rows.{token-nodes}
-use Rattle.grammar.specs.Grammar.{found, ite, one-of}
+use Rattle.grammar.specs.Grammar.{found, one-of}
 use Rattle.grammar.specs.Grammar as grammar
 use Rattle.grammar.proofs.Bools.{and-l, and-r}
 use Rattle.answers.specs.Source.{source, lookOf, lookAfter, textToken, pieceOf}
@@ -87,39 +86,39 @@ no-same a (x ∷ y ∷ l) h = false-right (eqb a x) (eqb 256 y) (same [] l) h
 no-word : (a : ℕ) (xs : List Entry) → T (seconds xs) → wordIn xs (a ∷ 256 ∷ []) 0 ≡ 0
 unfolding wordIn
 no-word a [] h = refl
-no-word a (x ∷ xs) h = ap (λ (b : Bool). pick b (x .word) (wordIn xs (a ∷ 256 ∷ []) 0)) (no-same a (x .text) (and-l (second-of (x .text)) (seconds xs) h)) ∙ no-word a xs (and-r (second-of (x .text)) (seconds xs) h)
+no-word a (x ∷ xs) h = ap (λ (b : Bool). cond b (x .word) (wordIn xs (a ∷ 256 ∷ []) 0)) (no-same a (x .text) (and-l (second-of (x .text)) (seconds xs) h)) ∙ no-word a xs (and-r (second-of (x .text)) (seconds xs) h)
 
 no-two : (a : ℕ) → twoSign a 256 ≡ 0
 unfolding twoSign twoSigns
 no-two a = no-word a twoSigns tt
 
--- every word is below 99
+-- every word is below 90
 abbrev smalls : List Entry → Bool
 smalls [] = true
-smalls (x ∷ xs) = ltb (x .word) 99 && smalls xs
+smalls (x ∷ xs) = ltb (x .word) 90 && smalls xs
 
-word-small : (xs : List Entry) (t : List ℕ) (d : ℕ) → T (smalls xs) → d < 99 → wordIn xs t d < 99
+word-small : (xs : List Entry) (t : List ℕ) (d : ℕ) → T (smalls xs) → d < 90 → wordIn xs t d < 90
 unfolding wordIn
 word-small [] t d h k = k
-word-small (x ∷ xs) t d h k = go (same t (x .text)) (word-small xs t d (and-r (ltb (x .word) 99) (smalls xs) h) k)
+word-small (x ∷ xs) t d h k = go (same t (x .text)) (word-small xs t d (and-r (ltb (x .word) 90) (smalls xs) h) k)
   where
-    go : (b : Bool) → wordIn xs t d < 99 → pick b (x .word) (wordIn xs t d) < 99
-    go true l = ltb→lt (x .word) 99 (and-l (ltb (x .word) 99) (smalls xs) h)
+    go : (b : Bool) → wordIn xs t d < 90 → cond b (x .word) (wordIn xs t d) < 90
+    go true l = ltb→lt (x .word) 90 (and-l (ltb (x .word) 90) (smalls xs) h)
     go false l = l
 
-two-small : (a b : ℕ) → twoSign a b < 99
+two-small : (a b : ℕ) → twoSign a b < 90
 unfolding twoSign twoSigns
 two-small a b = word-small twoSigns (a ∷ b ∷ []) 0 tt (omega arith)
 
-one-small : (b : ℕ) → oneSign b < 99
+one-small : (b : ℕ) → oneSign b < 90
 unfolding oneSign oneSigns
 one-small b = word-small oneSigns (b ∷ []) 0 tt (omega arith)
 
-name-small : (t : List ℕ) → nameWord t < 99
+name-small : (t : List ℕ) → nameWord t < 90
 unfolding nameWord keywords
 name-small t = go (same t (bytes "_"))
   where
-    go : (b : Bool) → pick b 14 (wordIn keywords t 13) < 99
+    go : (b : Bool) → cond b 14 (wordIn keywords t 13) < 90
     go true = omega arith
     go false = word-small keywords t 13 tt (omega arith)
 
@@ -133,7 +132,7 @@ unfolding wordIn
 word-some [] t d h k = k
 word-some (x ∷ xs) t d h k = go (same t (x .text)) (word-some xs t d (and-r (ltb 0 (x .word)) (somes xs) h) k)
   where
-    go : (b : Bool) → 0 < wordIn xs t d → 0 < pick b (x .word) (wordIn xs t d)
+    go : (b : Bool) → 0 < wordIn xs t d → 0 < cond b (x .word) (wordIn xs t d)
     go true l = ltb→lt 0 (x .word) (and-l (ltb 0 (x .word)) (somes xs) h)
     go false l = l
 
@@ -141,7 +140,7 @@ name-some : (t : List ℕ) → 0 < nameWord t
 unfolding nameWord keywords
 name-some t = go (same t (bytes "_"))
   where
-    go : (b : Bool) → 0 < pick b 14 (wordIn keywords t 13)
+    go : (b : Bool) → 0 < cond b 14 (wordIn keywords t 13)
     go true = omega arith
     go false = word-some keywords t 13 tt (omega arith)
 
@@ -149,11 +148,11 @@ some-word : (w : ℕ) → not (eqb w 0) ≡ true → 0 < w
 some-word zero e = absurd (true-T e)
 some-word (suc w) e = omega arith
 
-seven : (b : Bool) → 0 < pick b 8 7
+seven : (b : Bool) → 0 < cond b 8 7
 seven true = omega arith
 seven false = omega arith
 
-eight : (b : Bool) → pick b 8 7 < 99
+eight : (b : Bool) → cond b 8 7 < 90
 eight true = omega arith
 eight false = omega arith
 
@@ -164,10 +163,10 @@ module _ (s : List ℕ) where
 
   -- how far a rule reaches from a place
   data Goes (at : ℕ) : Fit → Type 0 where
-    goes-to : {e w : ℕ} → at < e → e ≤ length s → 0 < w → w < 99 → Goes at (To e w)
+    goes-to : {e w : ℕ} → at < e → e ≤ length s → 0 < w → w < 90 → Goes at (To e w)
     goes-no : Goes at No
 
-  goes-when : {at e : ℕ} (b : Bool) (w : ℕ) → w < 99 → (b ≡ true → (at < e) × (e ≤ length s) × (0 < w)) → Goes at (whenFit b e w)
+  goes-when : {at e : ℕ} (b : Bool) (w : ℕ) → w < 90 → (b ≡ true → (at < e) × (e ≤ length s) × (0 < w)) → Goes at (whenFit b e w)
   unfolding whenFit
   goes-when true w l h = let k = h refl in goes-to (k .0) (k .1) (k .2) l
   goes-when false w l h = goes-no
@@ -213,7 +212,7 @@ module _ (s : List ℕ) where
       goes-then _ h (goes-dotted a) λ b k m.
       goes-then _ (omega arith) (goes-dotted b) λ c k′ m′. goes-from (omega arith) (goes-dotted c)
 
-  goes-ending : {at e : ℕ} (t : Bool) (f : Fit) → at < e → e ≤ length s → Goes at f → Goes at (orTo (pick t f No) e)
+  goes-ending : {at e : ℕ} (t : Bool) (f : Fit) → at < e → e ≤ length s → Goes at f → Goes at (orTo (cond t f No) e)
   unfolding orTo
   goes-ending true (To r w) h k (goes-to l m p v) = goes-to {w = 1} l m (omega arith) (omega arith)
   goes-ending true No h k goes-no = goes-to {w = 1} h k (omega arith) (omega arith)
@@ -274,8 +273,8 @@ module _ (s : List ℕ) where
     goes-number =
         let whole : ℕ = pastRun (isClass Figure) s at in
         let fraction : Bool = fractionAt s whole in
-        let e : ℕ = pick fraction (pastRun (isClass Figure) s (whole + 1)) whole in
-        goes-when (isDigit (byteAt s at)) (pick fraction 8 7) (eight fraction) λ q.
+        let e : ℕ = cond fraction (pastRun (isClass Figure) s (whole + 1)) whole in
+        goes-when (isDigit (byteAt s at)) (cond fraction 8 7) (eight fraction) λ q.
         let h = past-gt (isClass Figure) (outside Figure) s at (in-or (isDigit (byteAt s at)) (eqb (byteAt s at) 95) q) in
         let l = past-le (isClass Figure) s at (omega arith) in
         let k = ends fraction refl in
@@ -285,14 +284,14 @@ module _ (s : List ℕ) where
         whole′ : ℕ
         whole′ = pastRun (isClass Figure) s at
 
-        ends : (b : Bool) → fractionAt s whole′ ≡ b → (whole′ ≤ pick b (pastRun (isClass Figure) s (whole′ + 1)) whole′) × (pick b (pastRun (isClass Figure) s (whole′ + 1)) whole′ ≤ length s)
+        ends : (b : Bool) → fractionAt s whole′ ≡ b → (whole′ ≤ cond b (pastRun (isClass Figure) s (whole′ + 1)) whole′) × (cond b (pastRun (isClass Figure) s (whole′ + 1)) whole′ ≤ length s)
         ends true q =
             let h = byte-inside whole′ 46 refl (left-true (eqb (byteAt s whole′) 46) (isDigit (byteAt s (whole′ + 1))) q) in
             let k = past-ge (isClass Figure) s (whole′ + 1) in
             (omega arith, past-le (isClass Figure) s (whole′ + 1) (omega arith))
         ends false q = (omega arith, past-le (isClass Figure) s at (omega arith))
 
-    goes-quote : (q w : ℕ) → 0 < w → w < 99 → Goes at (quoteAt q w s at)
+    goes-quote : (q w : ℕ) → 0 < w → w < 90 → Goes at (quoteAt q w s at)
     unfolding quoteAt
     goes-quote q w p l =
         let close : ℕ = pastSpan (goesOn q) escapes false s (at + 1) in
@@ -316,7 +315,7 @@ module _ (s : List ℕ) where
 
   -- a step from a place: a token, the end, or a refusal 4 or 5
   pub data Steps (at : ℕ) : Step → Type 0 where
-    steps-token : {t : Token} {w : ℕ} {next : Cursor} → at < next .at → next .at ≤ length s → 0 < w → w < 99 → Steps at (Taken t w next)
+    steps-token : {w a : ℕ} {next : Cursor} → at < next .at → next .at ≤ length s → 0 < w → w < 90 → Steps at (Taken w a next)
     steps-over : Steps at (Refused (record { number = 11; start = length s; end = length s }))
     steps-quote : {r : Refusal} → r .number ≡ 5 → at < r .end → r .end ≤ length s → Steps at (Refused r)
     steps-wrong : {r : Refusal} → r .number ≡ 4 → Steps at (Refused r)
@@ -326,7 +325,7 @@ module _ (s : List ℕ) where
   steps-or (goes-to h k p w) n = steps-token h k p w
   steps-or goes-no n = n
 
-  steps-pick : {at : ℕ} (b : Bool) {x d : Step} → (b ≡ true → Steps at x) → Steps at d → Steps at (pick b x d)
+  steps-pick : {at : ℕ} (b : Bool) {x d : Step} → (b ≡ true → Steps at x) → Steps at d → Steps at (cond b x d)
   steps-pick true h k = h refl
   steps-pick false h k = k
 
@@ -360,7 +359,7 @@ module _ (s : List ℕ) where
   unfolding stepAt skipAll refused
   step-goes at = go (ltb (skipAll s at) (length s)) refl
     where
-      go : (b : Bool) → ltb (skipAll s at) (length s) ≡ b → Steps at (pick b (tokenAt s (skipAll s at)) (Refused (record { number = 11; start = length s; end = length s })))
+      go : (b : Bool) → ltb (skipAll s at) (length s) ≡ b → Steps at (cond b (tokenAt s (skipAll s at)) (Refused (record { number = 11; start = length s; end = length s })))
       go true e = steps-from (omega arith) (steps-at (skipAll s at) (ltb→lt (skipAll s at) (length s) (true-T e)))
       go false e = steps-over
 
@@ -377,7 +376,7 @@ module _ (s : List ℕ) where
       after false false r h f = let z : _≡_ {A = ℕ} 0 1 = cc in absurd (omega arith)
 
       go : (k : Step) → Steps i k → lookOf s k ≡ found x j → ahead j < ahead i
-      go (Taken t w next) (steps-token h m p v) q = let z : next .at ≡ j = cc in omega arith
+      go (Taken w a next) (steps-token h m p v) q = let z : next .at ≡ j = cc in omega arith
       go (Refused r) (steps-quote c l m) q = after (eqb (r .number) 11) (eqb (r .number) 5) r (λ t. (l, m)) q
       go (Refused r) steps-over q = let z : _≡_ {A = ℕ} 0 1 = cc in absurd (omega arith)
       go (Refused r) (steps-wrong c) q = after (eqb (r .number) 11) (eqb (r .number) 5) r (λ t. let z : _≡_ {A = ℕ} 4 5 = sym c ∙ eqb→eq (r .number) 5 t in absurd (omega (arith, z))) q
@@ -393,13 +392,13 @@ module _ (s : List ℕ) where
       most : (w a b : ℕ) (z : Size) → token-nodes (textToken w a b z) ≤ 1
       most w a b (Size.Is n) = two (one-of w (text-then-hole ∷ last-text ∷ [])) (eqb n 0)
         where
-          two : (c d : Bool) → ite c (ite d 0 1) 0 ≤ 1
+          two : (c d : Bool) → cond c (cond d 0 1) 0 ≤ 1
           two true true = omega arith
           two true false = omega arith
           two false d = omega arith
       most w a b Size.None = two (one-of w (text-then-hole ∷ last-text ∷ []))
         where
-          two : (c : Bool) → ite c 0 0 ≤ 1
+          two : (c : Bool) → cond c 0 0 ≤ 1
           two true = omega arith
           two false = omega arith
 

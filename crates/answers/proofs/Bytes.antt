@@ -5,14 +5,14 @@ use mathlib.Core.Bool.{Bool}
 use Prim.Native.Nat.{ℕ, _+_, _*_, _≤_, _<_}
 use lib.ListN.{length, replicate}
 use native.Mathlib.Omega.{arith}
-use Rattle.tokens.specs.declared.Answer as tokens
+use Rattle.chars.specs.declared.Answer as chars
 use Rattle.tokens.specs.declared.Whole.{Whole}
 use Rattle.tokens.specs.declared.Whole.the-variants.{Fine, Refused as Bad}
 use Rattle.tokens.specs.Tokens.{wholeOf, refusal}
 use Rattle.grammar.specs.Words.{f-quote}
 use Rattle.grammar.specs.Grammar.{Token, found, over, wrong, Parts}
 use Rattle.grammar.specs.Readings.{Text}
-use Rattle.grammar.specs.Rows.{rows, token-nodes}
+use Rattle.grammar.specs.Rows.{rows}
 use Rattle.grammar.specs.Language.{roto, goal}
 use Rattle.grammar.specs.Refusals.{Why, Refusal, said}
 use Rattle.grammar.specs.Answers.{Answer, refused, Answers}
@@ -45,12 +45,12 @@ module _ (tests tree : Bool) (s : List ℕ) where
   culprit-11 = refusal-11 (source s) tests tree (ahead s) (tokens-take s) (length s) few
 
   -- every source has an answer, and by `one-permitted` no other
-  pub a-permitted : (size : ℕ) → (a : tokens.Answer) × (t : List ℕ) × Permitted tests tree s size a t
+  pub a-permitted : (size : ℕ) → (a : chars.Answer) × (t : List ℕ) × Permitted tests tree s size a t
   a-permitted size = go (wholeOf s) refl
     where
       kept-back : (x : Token) (i j : ℕ) → (source s) .piece i ≡ found x j → ahead s j ≤ ahead s i
       kept-back x i j e = let q = pieces-take s x i j e in omega arith
 
-      go : (w : Whole) → wholeOf s ≡ w → (a : tokens.Answer) × (t : List ℕ) × Permitted tests tree s size a t
+      go : (w : Whole) → wholeOf s ≡ w → (a : chars.Answer) × (t : List ℕ) × Permitted tests tree s size a t
       go (Bad r) e = (refusal r, replicate size 0, early e)
       go Fine e = let g = an-answer (source s) tests tree (length s) (ahead s) (tokens-take s) kept-back 0 in (answerFor (length s) size (g .0), tableFor size (g .0), read e (g .1))

@@ -6,7 +6,7 @@ use mathlib.Core.Option.{Option, none, some}
 use Prim.Native.Nat.{ℕ}
 use lib.ListN.{length, replicate}
 use native.Mathlib.Omega.{arith}
-use Rattle.tokens.specs.declared.Answer.{Answer}
+use Rattle.chars.specs.declared.Answer.{Answer}
 use Rattle.tokens.specs.declared.Whole.{Whole}
 use Rattle.tokens.specs.declared.Whole.the-variants.{Fine, Refused}
 use Rattle.tokens.specs.Tokens.{wholeOf, refusal}

@@ -1,14 +1,13 @@
 -- Demands 1 and 3 hold.
 use mathlib.Core.Path.{_≡_, refl, ap, _∙_}
 use mathlib.Core.List.{List, _++_}
-use mathlib.Core.Bool.{Bool, true, false, _||_}
+use mathlib.Core.Bool.{Bool, true, false, _||_, cond}
 use mathlib.Core.Logic.{inl, inr, _≢_}
 use Prim.Native.Nat.{ℕ, _+_, _-_, _*_, _≤_}
 use lib.Dec.{T, eqb, leb, leb→le, le→leb, eqb→eq}
 use lib.ListN.{length, replicate}
 use native.Mathlib.Omega.{arith}
-use Rattle.chars.specs.Chars.{pick}
-use Rattle.tokens.specs.declared.Answer.{Answer}
+use Rattle.chars.specs.declared.Answer.{Answer}
 use Rattle.tokens.specs.Tokens.{counted}
 use Rattle.grammar.specs.Grammar.{Parts}
 use Rattle.grammar.specs.Rows.{width, flat, nodes}
@@ -33,7 +32,7 @@ module _ (tests tree : Bool) (s : List ℕ) (size : ℕ) where
   counted-number : (n k : ℕ) → (counted (length s) n k) .number ≤ 11
   counted-number n k = go (leb n k)
     where
-      go : (b : Bool) → (pick {A = Answer} b (record { number = 0; start = 0; end = length s; count = n }) (record { number = 10; start = 0; end = 0; count = n })) .number ≤ 11
+      go : (b : Bool) → (cond {A = Answer} b (record { number = 0; start = 0; end = length s; count = n }) (record { number = 10; start = 0; end = 0; count = n })) .number ≤ 11
       go true = omega arith
       go false = omega arith
 
@@ -53,7 +52,7 @@ module _ (tests tree : Bool) (s : List ℕ) (size : ℕ) where
       full : List ℕ
       full = flat (rowsOf tree s p) ++ replicate (size - width * k) 0
 
-      go : (b : Bool) → (pick {A = Answer} b (record { number = 0; start = 0; end = length s; count = k }) (record { number = 10; start = 0; end = 0; count = k })) .number ≢ 0 → pick b full (replicate size 0) ≡ replicate size 0
+      go : (b : Bool) → (cond {A = Answer} b (record { number = 0; start = 0; end = length s; count = k }) (record { number = 10; start = 0; end = 0; count = k })) .number ≢ 0 → cond b full (replicate size 0) ≡ replicate size 0
       go true m = absurd (m refl)
       go false m = refl
   zeros (read e (stops f)) n = refl
@@ -63,7 +62,7 @@ module _ (tests tree : Bool) (s : List ℕ) (size : ℕ) where
   demand-1 = record { some-answer = a-permitted tests tree s size; no-other = one-permitted tests tree s size; in-the-table = small; refused-zeros = zeros }
 
   fits : (n k : ℕ) → n ≤ k → (counted (length s) n k) .number ≡ 0
-  fits n k h = ap (λ (b : Bool). (pick {A = Answer} b (record { number = 0; start = 0; end = length s; count = n }) (record { number = 10; start = 0; end = 0; count = n })) .number) (T→eq (leb n k) (le→leb n k h))
+  fits n k h = ap (λ (b : Bool). (cond {A = Answer} b (record { number = 0; start = 0; end = length s; count = n }) (record { number = 10; start = 0; end = 0; count = n })) .number) (T→eq (leb n k) (le→leb n k h))
 
   pub demand-3 : Demand3 tests tree s size
   demand-3 = record {

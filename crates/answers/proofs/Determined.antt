@@ -1,16 +1,16 @@
 -- Two answers to one source coincide, and so do the tables; a source is accepted exactly when it has a reading.
 use mathlib.Core.Path.{_≡_, refl, sym, ap, subst}
 use mathlib.Core.List.{List, _++_}
-use mathlib.Core.Bool.{Bool, true, false, _||_}
+use mathlib.Core.Bool.{Bool, true, false, _||_, cond}
 use Prim.Native.Nat.{ℕ, _-_, _*_, _≤_}
 use lib.Dec.{T, eqb, ltb, leb, leb→le}
 use lib.ListN.{length, replicate}
 use native.Mathlib.Omega.{arith}
 use Rattle.chars.specs.declared.Class.the-variants.{Ascii}
-use Rattle.chars.specs.Chars.{pick, isClass}
+use Rattle.chars.specs.Chars.{isClass}
 use Rattle.chars.specs.Runs.{pastRun}
 use Rattle.tokens.specs.declared.Refusal.{Refusal}
-use Rattle.tokens.specs.declared.Answer.{Answer}
+use Rattle.chars.specs.declared.Answer.{Answer}
 use Rattle.tokens.specs.declared.Whole.{Whole}
 use Rattle.tokens.specs.declared.Whole.the-variants.{Fine, Refused as Bad}
 use Rattle.tokens.specs.Rules.{pairAt}
@@ -31,7 +31,7 @@ data Tested : Whole → Type 0 where
   tested-fine : Tested Fine
   tested-bad : {r : Refusal} → 1 ≤ r .number → r .number ≤ 3 → Tested (Bad r)
 
-tested-pick : (b : Bool) {x d : Whole} → Tested x → Tested d → Tested (pick b x d)
+tested-pick : (b : Bool) {x d : Whole} → Tested x → Tested d → Tested (cond b x d)
 tested-pick true h k = h
 tested-pick false h k = k
 
@@ -87,7 +87,7 @@ module _ (tests tree : Bool) (s : List ℕ) (size : ℕ) where
       yes-table : List ℕ
       yes-table = flat (rows tree (length s) p) ++ replicate (size - width * n) 0
 
-      go : (b : Bool) → leb n (room size) ≡ b → (pick b yes-answer no-answer) .number ≡ 0 → Accepted (pick b yes-answer no-answer) (pick b yes-table (replicate size 0))
+      go : (b : Bool) → leb n (room size) ≡ b → (cond b yes-answer no-answer) .number ≡ 0 → Accepted (cond b yes-answer no-answer) (cond b yes-table (replicate size 0))
       go true e k = record { parts = p; text = x; fits = subst T (sym e) tt; answer = refl; table = refl }
       go false e k = absurd (omega arith)
   accepted-reads (read e (stops {z = z} {y = y} f)) q = absurd (zero-refusal _ (refused-number (source s) tests tree (length s) (look-number s) _ (stops f) refl) q)

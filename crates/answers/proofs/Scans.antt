@@ -2,7 +2,6 @@
 use mathlib.Core.Path.{_≡_, sym, subst, _∙_}
 use mathlib.Core.List.{List}
 use mathlib.Core.Bool.{Bool, true, false, not}
-use mathlib.Core.Logic.{_⊎_, inl, inr}
 use Prim.Native.Nat.{ℕ, _<_}
 use lib.Dec.{T, eqb, T-not}
 use native.Mathlib.Omega.{arith}
@@ -25,7 +24,7 @@ number-of s at n a b e = go (stepAt s at) (step-goes s at) e
     after false false r h f = let k : r .number ≡ n = cc in sym k ∙ h tt
 
     go : (k : Step) → Steps s at k → lookOf s k ≡ wrong n a b → n ≡ 4
-    go (Taken t w next) h q = let z : _≡_ {A = ℕ} 0 1 = cc in absurd (omega arith)
+    go (Taken w a next) h q = let z : _≡_ {A = ℕ} 0 1 = cc in absurd (omega arith)
     go (Refused r) steps-over q = let z : _≡_ {A = ℕ} 0 1 = cc in absurd (omega arith)
     go (Refused r) (steps-quote h l m) q = after (eqb (r .number) 11) (eqb (r .number) 5) r (λ t. absurd (T-not (eqb (r .number) 5) t (subst (λ (x : ℕ). T (eqb x 5)) (sym h) tt))) q
     go (Refused r) (steps-wrong h) q = after (eqb (r .number) 11) (eqb (r .number) 5) r (λ t. h) q

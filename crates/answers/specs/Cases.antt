@@ -5,7 +5,7 @@ use Prim.Native.Nat.{ℕ, _+_, _-_, _*_}
 use Prim.Native.String.{String}
 use lib.ListN.{length, replicate}
 use Rattle.chars.specs.Texts.{bytes}
-use Rattle.tokens.specs.declared.Answer.{Answer}
+use Rattle.chars.specs.declared.Answer.{Answer}
 use Rattle.grammar.specs.Rows.{Row, width, flat}
 use Rattle.answers.specs.Entries.{Permitted}
 

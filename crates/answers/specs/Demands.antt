@@ -6,7 +6,7 @@ use mathlib.Core.Bool.{Bool, true, false}
 use mathlib.Core.Logic.{_≢_}
 use Prim.Native.Nat.{ℕ, _+_, _-_, _*_, _≤_}
 use lib.ListN.{length, replicate}
-use Rattle.tokens.specs.declared.Answer.{Answer}
+use Rattle.chars.specs.declared.Answer.{Answer}
 use Rattle.tokens.specs.declared.Whole.the-variants.{Fine}
 use Rattle.tokens.specs.Tokens.{wholeOf}
 use Rattle.grammar.specs.Grammar.{Parts}

@@ -2,13 +2,12 @@
 -- content of the lent table.
 use mathlib.Core.Path.{_≡_}
 use mathlib.Core.List.{List, _++_}
-use mathlib.Core.Bool.{Bool}
+use mathlib.Core.Bool.{Bool, cond}
 use Prim.Native.Nat.{ℕ, _-_, _*_, _/_}
 use lib.Dec.{leb}
 use lib.ListN.{length, replicate}
-use Rattle.chars.specs.Chars.{pick}
 use Rattle.tokens.specs.declared.Refusal.{Refusal}
-use Rattle.tokens.specs.declared.Answer.{Answer}
+use Rattle.chars.specs.declared.Answer.{Answer}
 use Rattle.tokens.specs.declared.Whole.the-variants.{Fine, Refused}
 use Rattle.tokens.specs.Tokens.{wholeOf, refusal, counted}
 use Rattle.grammar.specs.Rows.{width, flat}
@@ -27,7 +26,7 @@ answerFor len size (refused r) = record { number = r .number; start = r .start; 
 
 -- "Accepted: the answer stands first in the lent table and zeros fill the rest. Refused: zeros throughout."
 abbrev pub tableFor : ℕ → grammar.Answer → List ℕ
-tableFor size (accepted rs) = pick (leb (length rs) (room size)) (flat rs ++ replicate (size - width * length rs) 0) (replicate size 0)
+tableFor size (accepted rs) = cond (leb (length rs) (room size)) (flat rs ++ replicate (size - width * length rs) 0) (replicate size 0)
 tableFor size (refused r) = replicate size 0
 
 -- What may be answered to the source s, and what then stands in a lent table of `size` numbers: "1, 2, 3 are tested first",

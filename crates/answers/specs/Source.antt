@@ -7,6 +7,7 @@ use lib.Seq.{slice}
 use Rattle.tokens.specs.declared.Refusal.{Refusal}
 use Rattle.tokens.specs.declared.Step.{Step}
 use Rattle.tokens.specs.declared.Step.the-variants.{Taken, Refused}
+use Rattle.tokens.specs.Words.{codeOf}
 use Rattle.tokens.specs.Tokens.{stepAt}
 use Rattle.strings.specs.declared.Size.{Size}
 use Rattle.texts.specs.declared.Part.{Part}
@@ -47,7 +48,7 @@ lookAfter false true r = found (tokenFor f-quote (r .start) (r .end) Literal.Non
 lookAfter false false r = wrong (r .number) (r .start) (r .end)
 
 abbrev pub lookOf : List ℕ → Step → Look ℕ
-lookOf s (Taken t w next) = found (tokenFor w (t .start) (t .end) (literalOf (t .code) (slice (t .start) (t .end) s))) (next .at)
+lookOf s (Taken w a next) = found (tokenFor w a (next .at) (literalOf (codeOf w) (slice a (next .at) s))) (next .at)
 lookOf s (Refused r) = lookAfter (eqb (r .number) 11) (eqb (r .number) 5) r
 
 -- A piece of text, from a place to its end, as a token: what it is worth, and the place of its hole's `{` or behind its quote.

@@ -1,7 +1,12 @@
-// The bytes of a source, their classes, and how far a run of one class reaches.
+// The bytes of a source, their classes, and how far a run of one class reaches; and what every entry point answers.
 ghost use mathlib.Core.Path.{_≡_};
 ghost use Rattle.chars.specs.Chars.{isBlank, isDigit, isHexDigit, isLetter, isClass, byteAt};
 ghost use Rattle.chars.specs.Runs.{pastRun, behindLast};
+
+pub mod refusal;
+
+// The longest source.
+pub const MOST_BYTES: usize = 65535;
 
 // The classes of bytes that runs are made of.
 pub enum Class {
@@ -13,6 +18,14 @@ pub enum Class {
     HexDigit,
     HexColon,
     NamePart,
+}
+
+// The answer of an entry point: a number, a place and a count.
+pub struct Answer {
+    pub number: u64,
+    pub start: usize,
+    pub end: usize,
+    pub count: usize,
 }
 
 pub fn is_blank(b: u16) -> bool

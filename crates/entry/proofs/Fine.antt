@@ -1,18 +1,17 @@
 -- A source that is fine as a whole is short.
 use mathlib.Core.Path.{_≡_, refl}
 use mathlib.Core.List.{List}
-use mathlib.Core.Bool.{Bool, true, false}
+use mathlib.Core.Bool.{Bool, true, false, cond}
 use Prim.Native.Nat.{ℕ, _≤_}
 use lib.ListN.{length}
 use lib.Dec.{ltb}
 use native.Mathlib.Omega.{arith}
 use borrow.Author.Tests.{ltb-false}
-use Rattle.chars.specs.Chars.{pick}
 use Rattle.tokens.specs.declared.Whole.{Whole}
 use Rattle.tokens.specs.declared.Whole.the-variants.{Fine}
 use Rattle.tokens.specs.Tokens.{bad, wholeOf}
 
-first-false : (b : Bool) (x : Whole) → pick b (bad 1 65535 65535) x ≡ Fine → b ≡ false
+first-false : (b : Bool) (x : Whole) → cond b (bad 1 65535 65535) x ≡ Fine → b ≡ false
 first-false true x e = let z : _≡_ {A = ℕ} 0 1 = cc in absurd (omega arith)
 first-false false x e = refl
 

@@ -1,18 +1,17 @@
 -- Rows that are stored in a lent table and zeros behind them: what document 01 says stands there.
 use mathlib.Core.Path.{_≡_, refl, sym, ap, subst, _∙_}
 use mathlib.Core.List.{List, [], _∷_, _++_, append-assoc}
-use mathlib.Core.Bool.{Bool, true, false}
+use mathlib.Core.Bool.{Bool, true, false, cond}
 use Prim.Native.Nat.{ℕ, suc, _+_, _-_, _*_, _/_, _≤_, _<_}
 use lib.Dec.{T, ltb, lt→ltb, leb, leb→le}
 use lib.ListN.{length, set, replicate, length-append}
 use native.Mathlib.Omega.{arith}
 use borrow.Author.Tests.{le-leb, lt-leb}
-use Rattle.chars.specs.Chars.{pick}
-use Rattle.tokens.specs.declared.Answer.{Answer}
+use Rattle.chars.specs.declared.Answer.{Answer}
 use Rattle.tokens.specs.declared.Refusal.{Refusal}
 use Rattle.tokens.specs.declared.Whole.the-variants.{Fine, Refused as Bad}
 use Rattle.tokens.specs.Tokens.{wholeOf, refusal, counted}
-use Rattle.rows.specs.Rows.{either, written, putRow, zeroed}
+use Rattle.rows.specs.Rows.{written, putRow, zeroed}
 use Rattle.grammar.specs.Rows.{numbers, flat}
 use Rattle.grammar.specs.Rows as grammar
 use Rattle.grammar.proofs.Bools.{T→eq}
@@ -62,7 +61,7 @@ put-behind a x₀ x₁ x₂ x₃ x₄ x₅ b n r e =
     let l : List ℕ = a ++ (x₀ ∷ x₁ ∷ x₂ ∷ x₃ ∷ x₄ ∷ x₅ ∷ b) in
     let h : length l ≡ length a + length (x₀ ∷ x₁ ∷ x₂ ∷ x₃ ∷ x₄ ∷ x₅ ∷ b) = length-append a (x₀ ∷ x₁ ∷ x₂ ∷ x₃ ∷ x₄ ∷ x₅ ∷ b) in
     let fits : n < length l / 6 = omega arith in
-    ap (λ (q : Bool). either q (written l (n * 6) (asRow r)) l) (T→eq (ltb n (length l / 6)) (lt→ltb n (length l / 6) fits)) ∙ written-behind a x₀ x₁ x₂ x₃ x₄ x₅ b (n * 6) r e ∙ sym (append-assoc a (numbers r) b)
+    ap (λ (q : Bool). cond q (written l (n * 6) (asRow r)) l) (T→eq (ltb n (length l / 6)) (lt→ltb n (length l / 6) fits)) ∙ written-behind a x₀ x₁ x₂ x₃ x₄ x₅ b (n * 6) r e ∙ sym (append-assoc a (numbers r) b)
 
 -- rows that fit stand one behind the other, and the rest of the table stays
 store-behind : (a b : List ℕ) (n : ℕ) (rs : List grammar.Row) → length a ≡ n * 6 → length rs * 6 ≤ length b → (c : List ℕ) × (store (a ++ b) n rs ≡ a ++ (flat rs ++ c)) × (length c + length rs * 6 ≡ length b)
@@ -93,9 +92,9 @@ stored-rows t rs h =
 
 -- "Accepted: the answer stands first in the lent table and zeros fill the rest. Refused: zeros throughout."
 kept-is : (t : List ℕ) (rs : List grammar.Row) → keptRows (store t 0 rs) (length rs) ≡ tableFor (length t) (accepted rs)
-kept-is t rs = ap (λ (n : ℕ). zeroed (store t 0 rs) (pick (leb (length rs) (n / 6)) (length rs * 6) 0)) (store-length t 0 rs) ∙ go (leb (length rs) (length t / 6)) (leb→le (length rs) (length t / 6))
+kept-is t rs = ap (λ (n : ℕ). zeroed (store t 0 rs) (cond (leb (length rs) (n / 6)) (length rs * 6) 0)) (store-length t 0 rs) ∙ go (leb (length rs) (length t / 6)) (leb→le (length rs) (length t / 6))
   where
-    go : (b : Bool) → (T b → length rs ≤ length t / 6) → zeroed (store t 0 rs) (pick b (length rs * 6) 0) ≡ pick b (flat rs ++ replicate (length t - 6 * length rs) 0) (replicate (length t) 0)
+    go : (b : Bool) → (T b → length rs ≤ length t / 6) → zeroed (store t 0 rs) (cond b (length rs * 6) 0) ≡ cond b (flat rs ++ replicate (length t - 6 * length rs) 0) (replicate (length t) 0)
     go true h = stored-rows t rs (h tt)
     go false h = zeroed-all (store t 0 rs) ∙ ap (λ (n : ℕ). replicate n 0) (store-length t 0 rs)
 

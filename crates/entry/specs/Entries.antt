@@ -1,11 +1,11 @@
 -- What the entry points answer.
+use mathlib.Core.Bool.{cond}
 use Prim.Native.Nat.{ℕ, _*_}
 use mathlib.Core.List.{List, []}
 use lib.ListN.{length}
 use lib.Dec.{eqb, leb}
 use lib.Seq.{slice}
-use Rattle.chars.specs.Chars.{pick}
-use Rattle.tokens.specs.declared.Answer.{Answer}
+use Rattle.chars.specs.declared.Answer.{Answer}
 use Rattle.tokens.specs.Tokens.{refusal, counted}
 use Rattle.rows.specs.Rows.{zeroed}
 use Rattle.parser.specs.declared.Read.{Read}
@@ -14,7 +14,7 @@ use Rattle.answers.specs.Entries.{room}
 
 -- "zeros fill the rest" behind so many rows, where there is room for them; else zeros throughout
 abbrev pub keptRows : List ℕ → ℕ → List ℕ
-keptRows t n = zeroed t (pick (leb n (room (length t))) (n * 6) 0)
+keptRows t n = zeroed t (cond (leb n (room (length t))) (n * 6) 0)
 
 -- the answer to a source of so many bytes that was read so, and what is left in a table of so many numbers
 abbrev pub answered : ℕ → ℕ → Read → Answer
@@ -28,4 +28,4 @@ leftBy t (Refused r) = zeroed t 0
 -- "(d) gives the part of the source that a row of kind 1 spans, and the empty part at the front for any other row or a
 -- span that doesn't fit."
 unfoldable pub nameText : List ℕ → ℕ → ℕ → ℕ → List ℕ
-nameText s kind start end = pick (eqb kind 1) (pick (leb start end) (pick (leb end (length s)) (slice start end s) []) []) []
+nameText s kind start end = cond (eqb kind 1) (cond (leb start end) (cond (leb end (length s)) (slice start end s) []) []) []

@@ -6,8 +6,9 @@ ghost use Rattle.tokens.specs.Tokens.{refusal, counted as countedOf};
 ghost use Rattle.rows.specs.Rows.{zeroed};
 ghost use Rattle.answers.specs.Entries.{room, Permitted};
 ghost use Rattle.entry.specs.Entries.{keptRows, answered, leftBy, nameText};
+use chars::Answer;
+use chars::refusal;
 use parser::Read;
-use tokens::Answer;
 use tokens::Refusal;
 use tokens::Whole;
 
@@ -31,7 +32,7 @@ fn counted(table: &mut [u64], length: usize, count: usize) -> Answer
     if count <= table.len() / 6 {
         rows::clear(table, count * 6);
         return Answer {
-            number: 0,
+            number: refusal::NONE,
             start: 0,
             end: length,
             count,
@@ -39,7 +40,7 @@ fn counted(table: &mut [u64], length: usize, count: usize) -> Answer
     }
     rows::clear(table, 0);
     Answer {
-        number: 10,
+        number: refusal::NO_ROOM,
         start: 0,
         end: 0,
         count,

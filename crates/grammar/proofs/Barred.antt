@@ -1,13 +1,13 @@
 -- C-24, its second half: no text of the grammar begins with what stands before a refused token and with that token.
 use mathlib.Core.Path.{_≡_, refl, sym, _∙_, ap, subst}
 use mathlib.Core.List.{List, [], _∷_}
-use mathlib.Core.Bool.{Bool, true, false, not, _&&_, _||_, Bool·beq}
+use mathlib.Core.Bool.{Bool, true, false, not, _&&_, _||_, Bool·beq, cond}
 use mathlib.Core.Option.{Option, none, some}
 use mathlib.Core.Logic.{_⊎_, inl, inr}
 use Prim.Native.Nat.{ℕ, suc, zero, _≤_, _<_}
 use lib.Dec.{T, eqb, T-not, eqb→eq}
 use native.Mathlib.Omega.{arith}
-use Rattle.grammar.specs.Grammar.{Ask, plain, has-value, opens-bracket, closes-bracket, is-prefix, is-head, is-else-if, same, found, Stream, Symbol, token, phrase, unless, note, left-side, text, Rule, Token, Parts, mark, Pair, View, one, pair, Language, ite, one-of, alternatives}
+use Rattle.grammar.specs.Grammar.{Ask, plain, has-value, opens-bracket, closes-bracket, is-prefix, is-head, is-else-if, same, found, Stream, Symbol, token, phrase, unless, note, left-side, text, Rule, Token, Parts, mark, Pair, View, one, pair, Language, one-of, alternatives}
 use Rattle.grammar.specs.Limits.{Counts, inside, kept}
 use Rattle.grammar.specs.Choice.{among, flag, two, see, follows, first, choose, chosen-from, chosen, or-else, spare, idle}
 use Rattle.grammar.specs.Readings.{word-of, peek, reads-end, reads-token, reads-phrase, reads-unless, reads-note, reads-side, reads-text, ReadingBy}
@@ -68,7 +68,7 @@ module _ (l : Language) where
   alike-same [] f c t = refl
   alike-same (a ∷ ss) f c t = go (among (one c) (first l a f)) (among (pair c) (first l a f)) t (alike-same ss f c)
     where
-      go : (x y : Bool) → T (Bool·beq x y && alike ss f c) → (T (alike ss f c) → choose l ss f (pair c) ≡ choose l ss f (one c)) → ite y (some a) (choose l ss f (pair c)) ≡ ite x (some a) (choose l ss f (one c))
+      go : (x y : Bool) → T (Bool·beq x y && alike ss f c) → (T (alike ss f c) → choose l ss f (pair c) ≡ choose l ss f (one c)) → cond y (some a) (choose l ss f (pair c)) ≡ cond x (some a) (choose l ss f (one c))
       go true true t′ h = refl
       go true false t′ h = absurd t′
       go false true t′ h = absurd t′
@@ -78,7 +78,7 @@ module _ (l : Language) where
   lacks-none [] f v t = refl
   lacks-none (a ∷ ss) f v t = go (among v (first l a f)) t (lacks-none ss f v)
     where
-      go : (x : Bool) → T (not x && lacks ss f v) → (T (lacks ss f v) → choose l ss f v ≡ none) → ite x (some a) (choose l ss f v) ≡ none
+      go : (x : Bool) → T (not x && lacks ss f v) → (T (lacks ss f v) → choose l ss f v ≡ none) → cond x (some a) (choose l ss f v) ≡ none
       go true t′ h = absurd t′
       go false t′ h = h t′
 
@@ -211,7 +211,7 @@ module _ (l : Language) where
       either : (n c d d′ : ℕ) → Either n c (see l c d) (see l c d′)
       either n c d d′ = go (two (l .pairs) c) refl
         where
-          pick : T (two (l .pairs) c) → (x y : Bool) → Either n c (ite x (pair c) (one c)) (ite y (pair c) (one c))
+          pick : T (two (l .pairs) c) → (x y : Bool) → Either n c (cond x (pair c) (one c)) (cond y (pair c) (one c))
           pick t true true = inl refl
           pick t false false = inl refl
           pick t false true = steady-means n c (steady-in n c firm t)
@@ -300,7 +300,7 @@ module _ (l : Language) where
                 (let ea : a ≡ a′ = cc in
                 let x = lock t (subst (λ (w : List Symbol). RunBy S′ l G d w i′ m′ p′) (sym ea) t′) k (omega arith) in
                 let en : l .is-path p′ ≡ l .is-path p = cc (x .1) in
-                let y = lock u (subst (λ (w : Bool). RunBy S′ l G d (ite w (phrase same n₁ ∷ s) s) m′ r′ q′) en u′) (x .0) b in
+                let y = lock u (subst (λ (w : Bool). RunBy S′ l G d (cond w (phrase same n₁ ∷ s) s) m′ r′ q′) en u′) (x .0) b in
                 (y .0, cc (ea, x .1, y .1)))
             | inr g ↦ absurd (no-run z (chosen l n (view S l i)) (g .1) c t (omega arith) (g .0))
           ]
@@ -355,7 +355,7 @@ module _ (l : Language) where
                 (let ea : a ≡ a′ = cc in
                 let x = lock t′ (subst (λ (w : List Symbol). RunBy S′ l G d w i′ m p) (sym ea) t) k j in
                 let en : l .is-path p ≡ l .is-path p′ = cc (x .1) in
-                lock-stop b f (subst (λ (w : Bool). RunBy S′ l G d (ite w (phrase same n₁ ∷ s) s) m r q) en u) (x .0))
+                lock-stop b f (subst (λ (w : Bool). RunBy S′ l G d (cond w (phrase same n₁ ∷ s) s) m r q) en u) (x .0))
             | inr w ↦ no-run z (chosen l n (view S l i)) (w .1) e t′ j (w .0)
           ]
 

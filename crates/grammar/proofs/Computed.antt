@@ -1,12 +1,12 @@
 -- What the computed reader hands back is a run or a refusal.
 use mathlib.Core.Path.{_≡_, refl, sym, subst, _∙_}
 use mathlib.Core.List.{List, [], _∷_}
-use mathlib.Core.Bool.{Bool, true, false, not}
+use mathlib.Core.Bool.{Bool, true, false, not, cond}
 use mathlib.Core.Option.{Option, none, some}
 use Prim.Native.Nat.{ℕ, suc, zero}
 use lib.Dec.{T, eqb}
 use native.Mathlib.Omega.{arith}
-use Rattle.grammar.specs.Grammar.{has-value, same, Look, found, over, wrong, Stream, Symbol, token, phrase, unless, note, left-side, text, Token, Parts, leaf, node, mark, Language, ite, one-of}
+use Rattle.grammar.specs.Grammar.{has-value, same, Look, found, over, wrong, Stream, Symbol, token, phrase, unless, note, left-side, text, Token, Parts, leaf, node, mark, Language, one-of}
 use Rattle.grammar.specs.Limits.{Counts, zeros, after, inside, kept}
 use Rattle.grammar.specs.Choice.{chosen}
 use Rattle.grammar.specs.Readings.{peek, reads-end, reads-token, reads-phrase, reads-unless, reads-note, reads-side, reads-text}
@@ -99,11 +99,11 @@ module _ (S : Stream) where
         by-after (Means d (note j ∷ s) i) (run S l k d s i) (λ p r. done (mark j p) r) (λ p r e. reads-note (subst (Means d s i) e ih)) (λ z y e. stops-note (subst (Means d s i) e ih)) tt
     run-means (suc k) d (left-side n n₁ ∷ s) i =
         let P = Means d (left-side n n₁ ∷ s) i in
-        by-picked P (chosen l n (view S l i)) (fail i (amiss n)) (λ a. and-then S (run S l k d a i) λ p m. asked S (may S l (l .is-path p) (peek S l m)) (λ u. and-then S (run S l k d (ite (l .is-path p) (phrase same n₁ ∷ s) s) m) λ q r. done (node n a p q) r) (fail m (left p)))
+        by-picked P (chosen l n (view S l i)) (fail i (amiss n)) (λ a. and-then S (run S l k d a i) λ p m. asked S (may S l (l .is-path p) (peek S l m)) (λ u. and-then S (run S l k d (cond (l .is-path p) (phrase same n₁ ∷ s) s) m) λ q r. done (node n a p q) r) (fail m (left p)))
         (λ e. stops-side-none e)
-        λ a e. by-after P (run S l k d a i) (λ p m. asked S (may S l (l .is-path p) (peek S l m)) (λ u. and-then S (run S l k d (ite (l .is-path p) (phrase same n₁ ∷ s) s) m) λ q r. done (node n a p q) r) (fail m (left p)))
+        λ a e. by-after P (run S l k d a i) (λ p m. asked S (may S l (l .is-path p) (peek S l m)) (λ u. and-then S (run S l k d (cond (l .is-path p) (phrase same n₁ ∷ s) s) m) λ q r. done (node n a p q) r) (fail m (left p)))
         (λ p m g.
-        let s′ = ite (l .is-path p) (phrase same n₁ ∷ s) s in
+        let s′ = cond (l .is-path p) (phrase same n₁ ∷ s) s in
         by-asked P (may S l (l .is-path p) (peek S l m)) (λ u. and-then S (run S l k d s′ m) λ q r. done (node n a p q) r) (fail m (left p))
         (λ h. by-after P (run S l k d s′ m) (λ q r. done (node n a p q) r)
         (λ q r g′. reads-side e (subst (Means d a i) g (run-means k d a i)) h (subst (Means d s′ m) g′ (run-means k d s′ m)))
@@ -114,9 +114,9 @@ module _ (S : Stream) where
         tt
     run-means (suc k) d (text n ∷ s) i =
         let P = Means d (text n ∷ s) i in
-        by-piece P (S .piece i) (fail i unread) (λ x j. asked S (kept has-value d x) (λ v. and-then S (run S l k (after has-value d) (ite (eqb (x .word) (l .hole)) (phrase same n ∷ s) s) j) (λ p r. done (leaf x p) r)) (fail i (ill x)))
+        by-piece P (S .piece i) (fail i unread) (λ x j. asked S (kept has-value d x) (λ v. and-then S (run S l k (after has-value d) (cond (eqb (x .word) (l .hole)) (phrase same n ∷ s) s) j) (λ p r. done (leaf x p) r)) (fail i (ill x)))
         (λ x j e.
-        let s′ = ite (eqb (x .word) (l .hole)) (phrase same n ∷ s) s in
+        let s′ = cond (eqb (x .word) (l .hole)) (phrase same n ∷ s) s in
         by-asked P (kept has-value d x) (λ v. and-then S (run S l k (after has-value d) s′ j) (λ p r. done (leaf x p) r)) (fail i (ill x))
         (λ h. by-after P (run S l k (after has-value d) s′ j) (λ p r. done (leaf x p) r)
         (λ p r q. reads-text e h (subst (Means (after has-value d) s′ j) q (run-means k (after has-value d) s′ j)))

@@ -1,14 +1,14 @@
 -- A run is a reading, a reading is a run, there is one run: for every grammar that passes the test.
 use mathlib.Core.Path.{_≡_, refl, sym, ap, subst}
 use mathlib.Core.List.{List, [], _∷_, _++_}
-use mathlib.Core.Bool.{Bool, true, false, not, _&&_, _||_}
+use mathlib.Core.Bool.{Bool, true, false, not, _&&_, _||_, cond}
 use mathlib.Core.Option.{Option, none, some}
 use mathlib.Core.Logic.{_⊎_, inl, inr}
 use Prim.Native.Nat.{ℕ}
 use lib.Dec.{T, eqb, eqb→eq, eqb-refl, T-not}
 use native.Mathlib.Omega.{arith}
 use Rattle.grammar.specs.Words.{the-end, no-token}
-use Rattle.grammar.specs.Grammar.{Ask, has-value, same, Look, found, over, wrong, Stream, Symbol, phrase, left-side, text, Token, Parts, mark, Language, Pair, View, one, pair, ite, one-of, alternatives, In, here, there}
+use Rattle.grammar.specs.Grammar.{Ask, has-value, same, Look, found, over, wrong, Stream, Symbol, phrase, left-side, text, Token, Parts, mark, Language, Pair, View, one, pair, one-of, alternatives, In, here, there}
 use Rattle.grammar.specs.Limits.{Counts, after, inside}
 use Rattle.grammar.specs.Choice.{eqv, among, flag, two, base, firsts, follows, see, minus, sees, front, fronts, first, choose, chosen, or-else, spare, idle, hollow, hollows, only}
 use Rattle.grammar.specs.Readings.{word-of, peek, reads-end, reads-token, reads-phrase, reads-unless, reads-note, reads-side, reads-text, ReadingBy}
@@ -60,7 +60,7 @@ module _ (S : Stream) (l : Language) where
   base-see : (c d : ℕ) → base (see l c d) ≡ c
   base-see c d = go (flag (l .pairs) c d)
     where
-      go : (b : Bool) → base (ite b (pair c) (one c)) ≡ c
+      go : (b : Bool) → base (cond b (pair c) (one c)) ≡ c
       go true = refl
       go false = refl
 
@@ -76,11 +76,11 @@ module _ (S : Stream) (l : Language) where
   pub see-alone : (c d : ℕ) → two (l .pairs) c ≡ false → see l c d ≡ one c
   see-alone c d e = go (l .pairs) e
     where
-      go : (ps : List Pair) → two ps c ≡ false → ite (flag ps c d) (pair c) (one c) ≡ one c
+      go : (ps : List Pair) → two ps c ≡ false → cond (flag ps c d) (pair c) (one c) ≡ one c
       go [] e′ = refl
       go (p ∷ ps) e′ = more (eqb c (p .this)) (eqb d (p .next)) (flag ps c d) e′ (go ps)
         where
-          more : (x y z : Bool) → (x || two ps c) ≡ false → (two ps c ≡ false → ite z (pair c) (one c) ≡ one c) → ite ((x && y) || z) (pair c) (one c) ≡ one c
+          more : (x y z : Bool) → (x || two ps c) ≡ false → (two ps c ≡ false → cond z (pair c) (one c) ≡ one c) → cond ((x && y) || z) (pair c) (one c) ≡ one c
           more true y z q h = let k : _≡_ {A = ℕ} 0 1 = cc in absurd (omega arith)
           more false y z q h = h q
 
@@ -89,7 +89,7 @@ module _ (S : Stream) (l : Language) where
   choose-in [] f v a e = let z : _≡_ {A = ℕ} 0 1 = cc in absurd (omega arith)
   choose-in (s ∷ ss) f v a e = go (among v (first l s f)) e (choose-in ss f v a)
     where
-      go : (t : Bool) → ite t (some s) (choose l ss f v) ≡ some a → (choose l ss f v ≡ some a → In a ss) → In a (s ∷ ss)
+      go : (t : Bool) → cond t (some s) (choose l ss f v) ≡ some a → (choose l ss f v ≡ some a → In a ss) → In a (s ∷ ss)
       go true e′ ih = let q : s ≡ a = cc in subst (λ (x : List Symbol). In x (s ∷ ss)) q here
       go false e′ ih = there (ih e′)
 
@@ -101,7 +101,7 @@ module _ (S : Stream) (l : Language) where
   hollows-in [] a e = let z : _≡_ {A = ℕ} 0 1 = cc in absurd (omega arith)
   hollows-in (s ∷ ss) a e = go (hollow s) e (hollows-in ss a)
     where
-      go : (t : Bool) → ite t (some s) (hollows ss) ≡ some a → (hollows ss ≡ some a → In a ss) → In a (s ∷ ss)
+      go : (t : Bool) → cond t (some s) (hollows ss) ≡ some a → (hollows ss ≡ some a → In a ss) → In a (s ∷ ss)
       go true e′ ih = let q : s ≡ a = cc in subst (λ (x : List Symbol). In x (s ∷ ss)) q here
       go false e′ ih = there (ih e′)
 
@@ -143,7 +143,7 @@ module _ (S : Stream) (l : Language) where
   one-run {G′ = G′} (reads-text {d = d} {n = n} {s = s} {x = x} {j = j} {r = r} {p = p} e k t) (reads-text {x = x′} {j = j′} {r = r′} {p = p′} e′ k′ t′) =
       let ex : x ≡ x′ = cc in
       let ej : j ≡ j′ = cc in
-      let q = one-run t (subst (λ (y : S .Place). RunBy S l G′ (after has-value d) (ite (eqb (x .word) (l .hole)) (phrase same n ∷ s) s) y r′ p′) (sym ej) (subst (λ (y : Token). RunBy S l G′ (after has-value d) (ite (eqb (y .word) (l .hole)) (phrase same n ∷ s) s) j′ r′ p′) (sym ex) t′)) in
+      let q = one-run t (subst (λ (y : S .Place). RunBy S l G′ (after has-value d) (cond (eqb (x .word) (l .hole)) (phrase same n ∷ s) s) y r′ p′) (sym ej) (subst (λ (y : Token). RunBy S l G′ (after has-value d) (cond (eqb (y .word) (l .hole)) (phrase same n ∷ s) s) j′ r′ p′) (sym ex) t′)) in
       (q .0, cc (ex, q .1))
   one-run {G′ = G′} (reads-phrase {d = d} {n = n} {o = o} {a = a} {s = s} {i = i} {p = p} {q = q} c t u) (reads-phrase {a = a′} {m = m′} {r = r′} {p = p′} {q = q′} c′ t′ u′) =
       let ea : a ≡ a′ = cc in
@@ -156,7 +156,7 @@ module _ (S : Stream) (l : Language) where
       let ea : a ≡ a′ = cc in
       let e = one-run t (subst (λ (x : List Symbol). RunBy S l G′ d x i m′ p′) (sym ea) t′) in
       let en : l .is-path p′ ≡ l .is-path p = cc (e .1) in
-      let k = one-run u (subst (λ (x : S .Place). RunBy S l G′ d (ite (l .is-path p) (phrase same n₁ ∷ s) s) x r′ q′) (sym (e .0)) (subst (λ (x : Bool). RunBy S l G′ d (ite x (phrase same n₁ ∷ s) s) m′ r′ q′) en u′)) in
+      let k = one-run u (subst (λ (x : S .Place). RunBy S l G′ d (cond (l .is-path p) (phrase same n₁ ∷ s) s) x r′ q′) (sym (e .0)) (subst (λ (x : Bool). RunBy S l G′ d (cond x (phrase same n₁ ∷ s) s) m′ r′ q′) en u′)) in
       (k .0, cc (ea, e .1, k .1))
 
   -- complete: a reading behind which the right things stand is a run
@@ -205,7 +205,7 @@ module _ (S : Stream) (l : Language) where
       | inr k ↦ keep (one-of (base x) w) x (mem-minus v vs w k h)
     ]
       where
-        keep : (b : Bool) (y : View) → T (among v (minus l vs w)) → T (among v (ite b (minus l vs w) (y ∷ minus l vs w)))
+        keep : (b : Bool) (y : View) → T (among v (minus l vs w)) → T (among v (cond b (minus l vs w) (y ∷ minus l vs w)))
         keep true y k = k
         keep false y k = or-r (eqv v y) (among v (minus l vs w)) k
 
@@ -221,7 +221,7 @@ module _ (S : Stream) (l : Language) where
     mem-front : (x : Token) (j : S .Place) (vs : List View) → T (among (view S l j) vs) → T (among (viewed S l (found x j)) (front l (x .word) vs))
     mem-front x j vs m = go (two (l .pairs) (x .word)) refl
       where
-        go : (b : Bool) → two (l .pairs) (x .word) ≡ b → T (among (viewed S l (found x j)) (ite b (sees l (x .word) vs) (one (x .word) ∷ [])))
+        go : (b : Bool) → two (l .pairs) (x .word) ≡ b → T (among (viewed S l (found x j)) (cond b (sees l (x .word) vs) (one (x .word) ∷ [])))
         go true e = rw (← base-view j) (mem-sees (x .word) (view S l j) vs m)
         go false e = rw (see-alone (x .word) (peek S l j) e) (or-l (eqv (one (x .word)) (one (x .word))) false (eqv-refl (one (x .word))))
 
@@ -247,7 +247,7 @@ module _ (S : Stream) (l : Language) where
     ]
 
     front-single : (x : Token) (j : S .Place) (vs : List View) → two (l .pairs) (x .word) ≡ false → T (among (viewed S l (found x j)) (front l (x .word) vs))
-    front-single x j vs e = rw (see-alone (x .word) (peek S l j) e) (subst (λ (b : Bool). T (among (one (x .word)) (ite b (sees l (x .word) vs) (one (x .word) ∷ [])))) (sym e) (or-l (eqv (one (x .word)) (one (x .word))) false (eqv-refl (one (x .word)))))
+    front-single x j vs e = rw (see-alone (x .word) (peek S l j) e) (subst (λ (b : Bool). T (among (one (x .word)) (cond b (sees l (x .word) vs) (one (x .word) ∷ [])))) (sym e) (or-l (eqv (one (x .word)) (one (x .word))) false (eqv-refl (one (x .word)))))
 
     tok-front : (x : Token) (j : S .Place) (w : List ℕ) (s : List Symbol) (f : List View) → T (not (blind l s) || singles l w) → T (one-of (x .word) w) → Seen s j f → T (among (viewed S l (found x j)) (front l (x .word) (first l s f)))
     tok-front x j w s f h m (inr k) = mem-front x j (first l s f) k
@@ -278,15 +278,15 @@ module _ (S : Stream) (l : Language) where
         let h = and-r (x && y) ((z && u) && w) k in
         record { sight = and-l b ((x && y) && ((z && u) && w)) c; pre₁ = and-l x y g; fol₁ = and-r x y g; fol₀ = and-l z u (and-l (z && u) w h); sign = and-r z u (and-l (z && u) w h); rest = and-r (z && u) w h }
 
-    forked : (n n₁ : ℕ) (s : List Symbol) (f : List View) (b : Bool) → Forked n n₁ s f → T (not (blind l (ite b (phrase same n₁ ∷ s) s))) × T (subset (first l (ite b (phrase same n₁ ∷ s) s) f) (follows l n)) × T (closed l (ite b (phrase same n₁ ∷ s) s) f)
+    forked : (n n₁ : ℕ) (s : List Symbol) (f : List View) (b : Bool) → Forked n n₁ s f → T (not (blind l (cond b (phrase same n₁ ∷ s) s))) × T (subset (first l (cond b (phrase same n₁ ∷ s) s) f) (follows l n)) × T (closed l (cond b (phrase same n₁ ∷ s) s) f)
     forked n n₁ s f true k = (tt, k .pre₁, both (not (blind l s)) (subset (first l s f) (follows l n₁) && closed l s f) (k .sight) (both (subset (first l s f) (follows l n₁)) (closed l s f) (k .fol₁) (k .rest)))
     forked n n₁ s f false k = (k .sight, k .fol₀, k .rest)
 
-    no-sign : (n n₁ : ℕ) (s : List Symbol) (f : List View) (b : Bool) (i : S .Place) → Forked n n₁ s f → T (among (view S l i) (first l (ite b (phrase same n₁ ∷ s) s) f)) → T (may S l b (peek S l i))
+    no-sign : (n n₁ : ℕ) (s : List Symbol) (f : List View) (b : Bool) (i : S .Place) → Forked n n₁ s f → T (among (view S l i) (first l (cond b (phrase same n₁ ∷ s) s) f)) → T (may S l b (peek S l i))
     no-sign n n₁ s f true i k m = tt
     no-sign n n₁ s f false i k m = rw (← base-view i) (unsigned-at (view S l i) (first l s f) (l .assigns) (k .sign) m)
 
-    texted : (n : ℕ) (s : List Symbol) (f : List View) (b : Bool) → T (closed l (text n ∷ s) f) → T (closed l (ite b (phrase same n ∷ s) s) f)
+    texted : (n : ℕ) (s : List Symbol) (f : List View) (b : Bool) → T (closed l (text n ∷ s) f) → T (closed l (cond b (phrase same n ∷ s) s) f)
     texted n s f true c = c
     texted n s f false c = and-r (subset (first l s f) (follows l n)) (closed l s f) (and-r (not (blind l s)) (subset (first l s f) (follows l n) && closed l s f) c)
 
@@ -316,8 +316,8 @@ module _ (S : Stream) (l : Language) where
         let x = forked n n₁ s f b g in
         let j = complete u f (x .2) m in
         let k = in-closed (firsts l n) (follows l n) o (good-at n) in
-        let v = seen (ite b (phrase same n₁ ∷ s) s) mid f (x .0) (j .1) in
-        let q = complete t (follows l n) (and-r (not (blind l a)) (closed l a (follows l n)) (k .0)) (mem-subset (view S l mid) (first l (ite b (phrase same n₁ ∷ s) s) f) (follows l n) (x .1) v) in
+        let v = seen (cond b (phrase same n₁ ∷ s) s) mid f (x .0) (j .1) in
+        let q = complete t (follows l n) (and-r (not (blind l a)) (closed l a (follows l n)) (k .0)) (mem-subset (view S l mid) (first l (cond b (phrase same n₁ ∷ s) s) f) (follows l n) (x .1) v) in
         let z = seen a i (follows l n) (and-l (not (blind l a)) (closed l a (follows l n)) (k .0)) (q .1) in
         (reads-side (in-chosen n (view S l i) o z) (q .0) (no-sign n n₁ s f b mid g v) (j .0), inr (mem-subset (view S l i) (first l a (follows l n)) (firsts l n) (k .1) z))
     complete (reads-text {n = n} {s = s} {x = x} e k t) f c m =

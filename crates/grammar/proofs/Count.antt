@@ -1,12 +1,12 @@
 -- As many rows as nodes; and a bound on the nodes of a reading by the bytes that it takes.
 use mathlib.Core.Path.{_≡_, refl, ap}
 use mathlib.Core.List.{List, [], _∷_, _++_}
-use mathlib.Core.Bool.{Bool, true, false, _&&_}
+use mathlib.Core.Bool.{Bool, true, false, _&&_, cond}
 use Prim.Native.Nat.{ℕ, _+_, _*_, _≤_, _<_}
 use lib.Dec.{T, eqb, leb, leb→le}
 use lib.ListN.{length, length-append}
 use native.Mathlib.Omega.{arith}
-use Rattle.grammar.specs.Grammar.{Ask, same, Symbol, token, phrase, unless, note, left-side, text, Rule, Token, found, Stream, Parts, end, leaf, node, mark, Language, ite, one-of, alternatives, In}
+use Rattle.grammar.specs.Grammar.{Ask, same, Symbol, token, phrase, unless, note, left-side, text, Rule, Token, found, Stream, Parts, end, leaf, node, mark, Language, one-of, alternatives, In}
 use Rattle.grammar.specs.Limits.{Counts}
 use Rattle.grammar.specs.Readings.{Reads, reads-end, reads-token, reads-phrase, reads-unless, reads-note, reads-side, reads-text, Is}
 use Rattle.grammar.specs.Table.{rest-kinds}
@@ -20,7 +20,7 @@ count-note : (k : ℕ) (a : Draft) → length ((take-note k a) .rows) ≡ length
 unfolding take-note
 count-note k a = go (eqb k 0)
   where
-    go : (b : Bool) → length ((ite b (record { rows = a .rows; items = a .items; part = 1 }) (add-row (row-of k (a .items) (a .part)) a)) .rows) ≡ length (a .rows) + ite b 0 1
+    go : (b : Bool) → length ((cond b (record { rows = a .rows; items = a .items; part = 1 }) (add-row (row-of k (a .items) (a .part)) a)) .rows) ≡ length (a .rows) + cond b 0 1
     go true = omega arith
     go false = length-append (a .rows) (row-of k (a .items) (a .part) ∷ [])
 
@@ -28,7 +28,7 @@ count-token : (x : Token) (a : Draft) → length ((add-token x a) .rows) ≡ len
 unfolding add-token
 count-token x a = go (is-text x) (eqb (x .value) 0) (record { rows = a .rows; items = a .items ++ (own x ∷ []); part = a .part }) (record { rows = a .rows ++ (text-row x ∷ []); items = a .items ++ (child (text-row x) ∷ []); part = a .part }) refl (length-append (a .rows) (text-row x ∷ []))
   where
-    go : (b c : Bool) (w t : Draft) → length (w .rows) ≡ length (a .rows) → length (t .rows) ≡ length (a .rows) + 1 → length ((ite b (ite c w t) w) .rows) ≡ length (a .rows) + ite b (ite c 0 1) 0
+    go : (b c : Bool) (w t : Draft) → length (w .rows) ≡ length (a .rows) → length (t .rows) ≡ length (a .rows) + 1 → length ((cond b (cond c w t) w) .rows) ≡ length (a .rows) + cond b (cond c 0 1) 0
     go true true w t e f = omega arith
     go true false w t e f = omega arith
     go false c w t e f = omega arith
@@ -119,10 +119,10 @@ module _ (l : Language) where
 
   -- a word of the grammar is no piece of text
   plain-token : (x : Token) (w : List ℕ) → T (no-text w) → T (one-of (x .word) w) → token-nodes x ≡ 0
-  plain-token x w t m = ap (λ (b : Bool). ite b (ite (eqb (x .value) 0) 0 1) 0) (plain-word x w t m)
+  plain-token x w t m = ap (λ (b : Bool). cond b (cond (eqb (x .value) 0) 0 1) 0) (plain-word x w t m)
 
   module _ (lights : T (all-light (l .rules))) (S : Stream) (ahead : S .Place → ℕ) (tokens-take : (x : Token) (i j : S .Place) → S .look i ≡ found x j → ahead j < ahead i) (pieces-take : (x : Token) (i j : S .Place) → S .piece i ≡ found x j → ahead j + token-nodes x ≤ ahead i) where
-    forked : (b : Bool) (n₁ : ℕ) (s : List Symbol) → T (worded s) → T (worded (ite b (phrase same n₁ ∷ s) s)) × (up (ite b (phrase same n₁ ∷ s) s) ≤ more n₁ + up s) × (down s ≤ down (ite b (phrase same n₁ ∷ s) s))
+    forked : (b : Bool) (n₁ : ℕ) (s : List Symbol) → T (worded s) → T (worded (cond b (phrase same n₁ ∷ s) s)) × (up (cond b (phrase same n₁ ∷ s) s) ≤ more n₁ + up s) × (down s ≤ down (cond b (phrase same n₁ ∷ s) s))
     forked true n₁ s h = (h, omega arith, omega arith)
     forked false n₁ s h = (h, omega arith, omega arith)
 

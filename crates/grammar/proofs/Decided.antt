@@ -1,13 +1,13 @@
 -- A reader comes to an end: at every place a list of symbols is read, or reading it stops.
 use mathlib.Core.Path.{_≡_, refl, sym, subst}
 use mathlib.Core.List.{List, [], _∷_}
-use mathlib.Core.Bool.{Bool, true, false, not, _||_}
+use mathlib.Core.Bool.{Bool, true, false, not, _||_, cond}
 use mathlib.Core.Option.{Option, none, some}
 use mathlib.Core.Logic.{_⊎_, inl, inr}
 use Prim.Native.Nat.{ℕ, suc, zero, _+_, _≤_, _<_}
 use lib.Dec.{T, eqb, ltb, ltb→lt}
 use native.Mathlib.Omega.{arith}
-use Rattle.grammar.specs.Grammar.{Ask, has-value, Scope, same, Symbol, token, phrase, unless, note, left-side, text, Rule, Token, Look, found, over, wrong, Stream, Parts, end, leaf, node, mark, Language, ite, one-of}
+use Rattle.grammar.specs.Grammar.{Ask, has-value, Scope, same, Symbol, token, phrase, unless, note, left-side, text, Rule, Token, Look, found, over, wrong, Stream, Parts, end, leaf, node, mark, Language, one-of}
 use Rattle.grammar.specs.Limits.{Counts, after, inside, kept}
 use Rattle.grammar.specs.Choice.{hint-in, chosen}
 use Rattle.grammar.specs.Readings.{peek, reads-end, reads-token, reads-phrase, reads-unless, reads-note, reads-side, reads-text}
@@ -26,10 +26,10 @@ module _ (l : Language) where
   abbrev pub front : List Symbol → ℕ
   front [] = 0
   front (token g w ∷ s) = 0
-  front (phrase o n ∷ s) = suc (rank n + ite (full l n) 0 (front s))
+  front (phrase o n ∷ s) = suc (rank n + cond (full l n) 0 (front s))
   front (unless w ∷ s) = suc (front s)
   front (note k ∷ s) = suc (front s)
-  front (left-side n n₁ ∷ s) = suc (rank n + ite (full l n) 0 (suc (rank n₁ + front s)))
+  front (left-side n n₁ ∷ s) = suc (rank n + cond (full l n) 0 (suc (rank n₁ + front s)))
   front (text n ∷ s) = suc (suc (rank n + front s))
 
   abbrev pub all-grounded : List Rule → Bool
@@ -60,10 +60,10 @@ module _ (l : Language) where
     -- one step, where what takes fewer bytes is decided, and at this place what takes fewer steps to a token
     module _ (b : ℕ) (before : (d : Counts) (s : List Symbol) (i : S .Place) → ahead i < b → Decided d s i) (c : ℕ) (inner : (d : Counts) (s : List Symbol) (i : S .Place) → ahead i ≤ b → front s < c → Decided d s i) where
       -- the rest behind a phrase of kind n
-      behind : (n x : ℕ) (d : Counts) (s : List Symbol) (i m : S .Place) → (T (full l n) → ahead m < ahead i) → ahead m ≤ ahead i → ahead i ≤ b → front s ≤ x → rank n + ite (full l n) 0 x < c → Decided d s m
+      behind : (n x : ℕ) (d : Counts) (s : List Symbol) (i m : S .Place) → (T (full l n) → ahead m < ahead i) → ahead m ≤ ahead i → ahead i ≤ b → front s ≤ x → rank n + cond (full l n) 0 x < c → Decided d s m
       behind n x d s i m g k h e f = go (full l n) g f
         where
-          go : (t : Bool) → (T t → ahead m < ahead i) → rank n + ite t 0 x < c → Decided d s m
+          go : (t : Bool) → (T t → ahead m < ahead i) → rank n + cond t 0 x < c → Decided d s m
           go true g′ f′ = let q = g′ tt in before d s m (omega arith)
           go false g′ f′ = inner d s m (omega arith) (omega arith)
 
@@ -90,7 +90,7 @@ module _ (l : Language) where
           words true q = tests (kept g d x) refl (subst T (sym q) tt)
           words false q = inr (record { at = i; why = _; stop = stops-want (subst (λ (y : Look (S .Place)). T (lacks y w)) (sym e) (subst (λ (t : Bool). T (not t)) (sym q) tt)) })
 
-      by-phrase : (o : Scope) (n : ℕ) (d : Counts) (s : List Symbol) (i : S .Place) → ahead i ≤ b → rank n + ite (full l n) 0 (front s) < c → (k : Option (List Symbol)) → chosen l n (view S l i) ≡ k → Decided d (phrase o n ∷ s) i
+      by-phrase : (o : Scope) (n : ℕ) (d : Counts) (s : List Symbol) (i : S .Place) → ahead i ≤ b → rank n + cond (full l n) 0 (front s) < c → (k : Option (List Symbol)) → chosen l n (view S l i) ≡ k → Decided d (phrase o n ∷ s) i
       by-phrase o n d s i h f none e = inr (record { at = i; why = _; stop = stops-none e })
       by-phrase o n d s i h f (some a) e = first (inner (inside o d) a i h (let q = (chosen-grounded n i a e) .1 in omega arith))
         where
@@ -108,19 +108,19 @@ module _ (l : Language) where
           first (inl r) = second r (behind n (front s) d s i (r .to) (λ t. r .takes ((chosen-grounded n i a e) .0 t)) (r .keeps) h (omega arith) f)
           first (inr r) = inr (record { at = r .at; why = r .why; stop = stops-in e (r .stop) })
 
-      either-front : (t : Bool) (n₁ : ℕ) (s : List Symbol) → front (ite t (phrase same n₁ ∷ s) s) ≤ suc (rank n₁ + front s)
+      either-front : (t : Bool) (n₁ : ℕ) (s : List Symbol) → front (cond t (phrase same n₁ ∷ s) s) ≤ suc (rank n₁ + front s)
       either-front true n₁ s = go (full l n₁)
         where
-          go : (t : Bool) → suc (rank n₁ + ite t 0 (front s)) ≤ suc (rank n₁ + front s)
+          go : (t : Bool) → suc (rank n₁ + cond t 0 (front s)) ≤ suc (rank n₁ + front s)
           go true = omega arith
           go false = omega arith
       either-front false n₁ s = omega arith
 
-      by-side : (n n₁ : ℕ) (d : Counts) (s : List Symbol) (i : S .Place) → ahead i ≤ b → rank n + ite (full l n) 0 (suc (rank n₁ + front s)) < c → (k : Option (List Symbol)) → chosen l n (view S l i) ≡ k → Decided d (left-side n n₁ ∷ s) i
+      by-side : (n n₁ : ℕ) (d : Counts) (s : List Symbol) (i : S .Place) → ahead i ≤ b → rank n + cond (full l n) 0 (suc (rank n₁ + front s)) < c → (k : Option (List Symbol)) → chosen l n (view S l i) ≡ k → Decided d (left-side n n₁ ∷ s) i
       by-side n n₁ d s i h f none e = inr (record { at = i; why = _; stop = stops-side-none e })
       by-side n n₁ d s i h f (some a) e = first (inner d a i h (let q = (chosen-grounded n i a e) .1 in omega arith))
         where
-          second : (r : Ran d a i) → T (may S l (l .is-path (r .parts)) (peek S l (r .to))) → Decided d (ite (l .is-path (r .parts)) (phrase same n₁ ∷ s) s) (r .to) → Decided d (left-side n n₁ ∷ s) i
+          second : (r : Ran d a i) → T (may S l (l .is-path (r .parts)) (peek S l (r .to))) → Decided d (cond (l .is-path (r .parts)) (phrase same n₁ ∷ s) s) (r .to) → Decided d (left-side n n₁ ∷ s) i
           second r m (inl q) = inl (record {
             to = q .to;
             parts = node n a (r .parts) (q .parts);
@@ -132,7 +132,7 @@ module _ (l : Language) where
 
           tests : (r : Ran d a i) (t : Bool) → may S l (l .is-path (r .parts)) (peek S l (r .to)) ≡ t → Decided d (left-side n n₁ ∷ s) i
           tests r true q =
-              let s′ = ite (l .is-path (r .parts)) (phrase same n₁ ∷ s) s in
+              let s′ = cond (l .is-path (r .parts)) (phrase same n₁ ∷ s) s in
               second r (subst T (sym q) tt) (behind n (suc (rank n₁ + front s)) d s′ i (r .to) (λ t. r .takes ((chosen-grounded n i a e) .0 t)) (r .keeps) h (either-front (l .is-path (r .parts)) n₁ s) f)
           tests r false q = inr (record { at = r .to; why = _; stop = stops-left e (r .run) (subst (λ (t : Bool). T (not t)) (sym q) tt) })
 
@@ -149,7 +149,7 @@ module _ (l : Language) where
           keep = pieces-keep x i j e
 
           s′ : List Symbol
-          s′ = ite (eqb (x .word) (l .hole)) (phrase same n ∷ s) s
+          s′ = cond (eqb (x .word) (l .hole)) (phrase same n ∷ s) s
 
           rest : T (kept has-value d x) → Decided (after has-value d) s′ j → Decided d (text n ∷ s) i
           rest k (inl r) = inl (record { to = r .to; parts = leaf x (r .parts); run = reads-text e k (r .run); keeps = let q = r .keeps in let z = keep in omega arith; takes = λ t. absurd t })

@@ -1,12 +1,12 @@
 -- The rows of a phrase do not depend on what was written before it, and are put behind that.
 use mathlib.Core.Path.{_≡_, refl, sym, _∙_, ap, subst}
 use mathlib.Core.List.{List, [], _∷_, _++_, append-assoc, append-nil}
-use mathlib.Core.Bool.{Bool, true, false, not, _&&_, _||_}
+use mathlib.Core.Bool.{Bool, true, false, not, _&&_, _||_, cond}
 use mathlib.Core.Logic.{inl, inr}
 use Prim.Native.Nat.{ℕ}
 use lib.Dec.{T, eqb, eqb→eq, T-not}
 use Rattle.grammar.specs.Words.{text-then-hole, last-text}
-use Rattle.grammar.specs.Grammar.{Symbol, Token, Parts, end, leaf, node, mark, ite, one-of}
+use Rattle.grammar.specs.Grammar.{Symbol, Token, Parts, end, leaf, node, mark, one-of}
 use Rattle.grammar.specs.Table.{rest-kinds}
 use Rattle.grammar.specs.Rows.{Row, own, child, Draft, children-of, add-row, row-of, take-note, is-text, text-row, add-token, enter, leave, write, blank}
 use Rattle.grammar.proofs.Bools.{and-l, and-r, or-cases, F→eq}
@@ -19,7 +19,7 @@ note-on : (k : ℕ) (o : List Row) (a : Draft) → take-note k (on o a) ≡ on o
 unfolding take-note
 note-on k o a = go (eqb k 0)
   where
-    go : (b : Bool) → ite b (record { rows = o ++ a .rows; items = a .items; part = 1 }) (add-row (row-of k (a .items) (a .part)) (on o a)) ≡ on o (ite b (record { rows = a .rows; items = a .items; part = 1 }) (add-row (row-of k (a .items) (a .part)) a))
+    go : (b : Bool) → cond b (record { rows = o ++ a .rows; items = a .items; part = 1 }) (add-row (row-of k (a .items) (a .part)) (on o a)) ≡ on o (cond b (record { rows = a .rows; items = a .items; part = 1 }) (add-row (row-of k (a .items) (a .part)) a))
     go true = refl
     go false = let r = row-of k (a .items) (a .part) in ap (λ (x : List Row). record { rows = x; items = child r ∷ []; part = 0 }) (append-assoc o (a .rows) (r ∷ []))
 
@@ -33,7 +33,7 @@ token-on x o a = go (is-text x) (eqb (x .value) 0)
     t : List Row → Draft
     t r = record { rows = r; items = a .items ++ (child (text-row x) ∷ []); part = a .part }
 
-    go : (b c : Bool) → ite b (ite c (on o w) (t ((o ++ a .rows) ++ (text-row x ∷ [])))) (on o w) ≡ on o (ite b (ite c w (t (a .rows ++ (text-row x ∷ [])))) w)
+    go : (b c : Bool) → cond b (cond c (on o w) (t ((o ++ a .rows) ++ (text-row x ∷ [])))) (on o w) ≡ on o (cond b (cond c w (t (a .rows ++ (text-row x ∷ [])))) w)
     go true true = refl
     go true false = ap t (append-assoc o (a .rows) (text-row x ∷ []))
     go false c = refl
@@ -106,7 +106,7 @@ with-own x a = record { rows = a .rows; items = a .items ++ (own x ∷ []); part
 
 pub write-token : (x : Token) (p : Parts) (a : Draft) → is-text x ≡ false → write (leaf x p) a ≡ write p (with-own x a)
 unfolding write add-token
-write-token x p a e = ap (λ (y : Draft). write p y) (ap (λ (b : Bool). ite b (ite (eqb (x .value) 0) (with-own x a) (record { rows = a .rows ++ (text-row x ∷ []); items = a .items ++ (child (text-row x) ∷ []); part = a .part })) (with-own x a)) e)
+write-token x p a e = ap (λ (y : Draft). write p y) (ap (λ (b : Bool). cond b (cond (eqb (x .value) 0) (with-own x a) (record { rows = a .rows ++ (text-row x ∷ []); items = a .items ++ (child (text-row x) ∷ []); part = a .part })) (with-own x a)) e)
 
 pub write-note : (k : ℕ) (p : Parts) (a : Draft) → write (mark k p) a ≡ write p (take-note k a)
 unfolding write

@@ -2,12 +2,12 @@
 -- shape: a token, a note, a phrase, the rest of a phrase, the last rest of a rest, a word that may not stand, a path or not.
 use mathlib.Core.Path.{_≡_, refl, sym, ap, subst}
 use mathlib.Core.List.{List, [], _∷_, _++_}
-use mathlib.Core.Bool.{Bool, true, false, not}
+use mathlib.Core.Bool.{Bool, true, false, not, cond}
 use mathlib.Core.Option.{none, some}
 use mathlib.Core.Logic.{_⊎_, inl, inr}
 use Prim.Native.Nat.{ℕ}
 use lib.Dec.{T, eqb}
-use Rattle.grammar.specs.Grammar.{Ask, has-value, Scope, same, found, Stream, Symbol, token, phrase, unless, note, left-side, text, Token, Parts, end, leaf, node, mark, Language, ite, one-of}
+use Rattle.grammar.specs.Grammar.{Ask, has-value, Scope, same, found, Stream, Symbol, token, phrase, unless, note, left-side, text, Token, Parts, end, leaf, node, mark, Language, one-of}
 use Rattle.grammar.specs.Limits.{Counts, after, inside, kept}
 use Rattle.grammar.specs.Choice.{chosen}
 use Rattle.grammar.specs.Readings.{peek, reads-end, reads-token, reads-phrase, reads-unless, reads-note, reads-side, reads-text}
@@ -77,7 +77,7 @@ module _ (S : Stream) (l : Language) where
       }
 
       -- a piece of text (C-11), and where a hole follows it a phrase
-      pub scan : {s : List Symbol} {n : ℕ} {t : Token} {k : S .Place} → S .piece j ≡ found t k → T (kept has-value d t) → Open d₀ o₀ n₀ i (record { at = d; syms = text n ∷ s } ∷ ks) j a → Open d₀ o₀ n₀ i (record { at = after has-value d; syms = ite (eqb (t .word) (l .hole)) (phrase same n ∷ s) s } ∷ ks) k (add-token t a)
+      pub scan : {s : List Symbol} {n : ℕ} {t : Token} {k : S .Place} → S .piece j ≡ found t k → T (kept has-value d t) → Open d₀ o₀ n₀ i (record { at = d; syms = text n ∷ s } ∷ ks) j a → Open d₀ o₀ n₀ i (record { at = after has-value d; syms = cond (eqb (t .word) (l .hole)) (phrase same n ∷ s) s } ∷ ks) k (add-token t a)
       unfolding write
       scan {t = t} {k = k} e h x = record {
         close = λ z b r. x .close z b (r .0, leaf t (r .1), reads-text e h (r .2), r .3);
@@ -142,7 +142,7 @@ module _ (S : Stream) (l : Language) where
           later z y q = elim (q .3) [ inl g ↦ x .halt z y (inl (then-stop (q .2) g)) | inr g ↦ (let k = join (q .2) (g .2) a in x .halt z y (inr (g .0, k .0, k .1, g .3))) ]
 
       -- a phrase that may be a path is read, and no sign stands behind it unless it is one
-      pub forks : {s : List Symbol} {n n₁ : ℕ} {m : S .Place} {b : Draft} → one-of n rest-kinds ≡ false → (u : Read S l d same n j m b) → T (may S l (l .is-path (u .parts)) (peek S l m)) → Open d₀ o₀ n₀ i (record { at = d; syms = left-side n n₁ ∷ s } ∷ ks) j a → Open d₀ o₀ n₀ i (record { at = d; syms = ite (l .is-path (u .parts)) (phrase same n₁ ∷ s) s } ∷ ks) m (with-phrase b a)
+      pub forks : {s : List Symbol} {n n₁ : ℕ} {m : S .Place} {b : Draft} → one-of n rest-kinds ≡ false → (u : Read S l d same n j m b) → T (may S l (l .is-path (u .parts)) (peek S l m)) → Open d₀ o₀ n₀ i (record { at = d; syms = left-side n n₁ ∷ s } ∷ ks) j a → Open d₀ o₀ n₀ i (record { at = d; syms = cond (l .is-path (u .parts)) (phrase same n₁ ∷ s) s } ∷ ks) m (with-phrase b a)
       unfolding inside
       forks {n = n} {b = b₀} h u v x = record {
         close = λ z b r. x .close z b (r .0, node n (u .alternative) (u .parts) (r .1), reads-side (u .picks) (u .run) v (r .2), subst (λ (y : Draft). Runs ks (r .0) z y b) (sym (write-phrase n (u .alternative) (u .parts) (r .1) a h)) (subst (λ (y : Draft). Runs ks (r .0) z (write (r .1) (with-phrase y a)) b) (sym (u .draft)) (r .3)));

@@ -1,10 +1,10 @@
 -- A test of every rule holds at every kind.
 use mathlib.Core.Path.{_≡_, sym, subst}
 use mathlib.Core.List.{List, [], _∷_}
-use mathlib.Core.Bool.{Bool, true, false, _&&_}
+use mathlib.Core.Bool.{Bool, true, false, _&&_, cond}
 use Prim.Native.Nat.{ℕ}
 use lib.Dec.{T, eqb, eqb→eq}
-use Rattle.grammar.specs.Grammar.{Symbol, Rule, ite, alternatives-in, In, here, there}
+use Rattle.grammar.specs.Grammar.{Symbol, Rule, alternatives-in, In, here, there}
 use Rattle.grammar.proofs.Bools.{and-l, and-r}
 
 -- of a kind with all its alternatives
@@ -19,7 +19,7 @@ rule-passes test none (r ∷ rs) n t = go (eqb n (r .kind)) (eqb→eq n (r .kind
     x : Bool
     x = test (r .kind) (r .alternatives)
 
-    go : (b : Bool) → (T b → n ≡ r .kind) → T (test n (alternatives-in rs n)) → T (test n (ite b (r .alternatives) (alternatives-in rs n)))
+    go : (b : Bool) → (T b → n ≡ r .kind) → T (test n (alternatives-in rs n)) → T (test n (cond b (r .alternatives) (alternatives-in rs n)))
     go true e h = subst (λ (y : ℕ). T (test y (r .alternatives))) (sym (e tt)) (and-l x (rules-pass test rs) t)
     go false e h = h
 

@@ -1,13 +1,13 @@
 -- Which alternative a kind has at which words, for readers' proofs: computed once for a kind, and used at every place.
 use mathlib.Core.Path.{_≡_, refl, sym, _∙_, ap, ap₂, subst}
 use mathlib.Core.List.{List, [], _∷_}
-use mathlib.Core.Bool.{Bool, true, false, _&&_, _||_}
+use mathlib.Core.Bool.{Bool, true, false, _&&_, _||_, cond}
 use mathlib.Core.Option.{Option, none, some}
 use mathlib.Core.Logic.{_⊎_, inl, inr, _≢_}
 use Prim.Native.Nat.{ℕ, suc, zero, _<_}
 use lib.Dec.{T, eqb, eqb→eq, eqb-refl}
 use native.Mathlib.Omega.{arith}
-use Rattle.grammar.specs.Grammar.{Ask, plain, has-value, opens-bracket, closes-bracket, is-prefix, is-head, is-else-if, Scope, same, body, Token, Look, found, Stream, Symbol, token, phrase, unless, note, left-side, text, View, one, pair, Language, one-of, ite}
+use Rattle.grammar.specs.Grammar.{Ask, plain, has-value, opens-bracket, closes-bracket, is-prefix, is-head, is-else-if, Scope, same, body, Token, Look, found, Stream, Symbol, token, phrase, unless, note, left-side, text, View, one, pair, Language, one-of}
 use Rattle.grammar.specs.Choice.{flag, base, chosen}
 use Rattle.grammar.specs.Readings.{peek}
 use Rattle.grammar.specs.Runs.{viewed, view}
@@ -187,7 +187,7 @@ module _ (l : Language) (n : ℕ) (o : Option (List Symbol)) where
   module _ (S : Stream) where
     -- a token in front of what it is looked at together with, and in front of anything else
     pub pair-place : {x : Token} {j : S .Place} (w : List ℕ) (i : S .Place) → S .look i ≡ found x j → T (flag (l .pairs) (x .word) (peek S l j)) → T (picks-by pair w) → T (one-of (x .word) w) → chosen l n (view S l i) ≡ o
-    pair-place {x} {j} w i e f t m = ap (λ (k : Look (S .Place)). chosen l n (viewed S l k)) e ∙ ap (λ (b : Bool). chosen l n (ite b (pair (x .word)) (one (x .word)))) (T→eq (flag (l .pairs) (x .word) (peek S l j)) f) ∙ by-at pair w (x .word) t m
+    pair-place {x} {j} w i e f t m = ap (λ (k : Look (S .Place)). chosen l n (viewed S l k)) e ∙ ap (λ (b : Bool). chosen l n (cond b (pair (x .word)) (one (x .word)))) (T→eq (flag (l .pairs) (x .word) (peek S l j)) f) ∙ by-at pair w (x .word) t m
 
     pub one-place : {x : Token} {j : S .Place} (w : List ℕ) (i : S .Place) → S .look i ≡ found x j → (T (flag (l .pairs) (x .word) (peek S l j)) → ⊥) → T (picks-by one w) → T (one-of (x .word) w) → chosen l n (view S l i) ≡ o
-    one-place {x} {j} w i e f t m = ap (λ (k : Look (S .Place)). chosen l n (viewed S l k)) e ∙ ap (λ (b : Bool). chosen l n (ite b (pair (x .word)) (one (x .word)))) (F→eq (flag (l .pairs) (x .word) (peek S l j)) f) ∙ by-at one w (x .word) t m
+    one-place {x} {j} w i e f t m = ap (λ (k : Look (S .Place)). chosen l n (viewed S l k)) e ∙ ap (λ (b : Bool). chosen l n (cond b (pair (x .word)) (one (x .word)))) (F→eq (flag (l .pairs) (x .word) (peek S l j)) f) ∙ by-at one w (x .word) t m

@@ -2,16 +2,16 @@
 -- same way over the same tokens with no text at all.
 use mathlib.Core.Path.{_≡_, subst, sym}
 use mathlib.Core.List.{List, [], _∷_}
-use mathlib.Core.Bool.{Bool, true, false, not, _&&_, _||_}
-use mathlib.Core.Logic.{_⊎_, inl, inr}
+use mathlib.Core.Bool.{Bool, true, false, not, _&&_, _||_, cond}
+use mathlib.Core.Logic.{inl, inr}
 use Prim.Native.Nat.{ℕ}
 use lib.Dec.{T, eqb, eqb→eq, T-not}
-use Rattle.grammar.specs.Grammar.{same, Symbol, token, phrase, unless, note, left-side, text, Rule, Token, Look, found, over, Stream, Parts, Language, ite, one-of}
+use Rattle.grammar.specs.Grammar.{same, Symbol, token, phrase, unless, note, left-side, text, Rule, Token, found, Stream, Parts, Language, one-of}
 use Rattle.grammar.specs.Limits.{Counts}
 use Rattle.grammar.specs.Readings.{reads-end, reads-token, reads-phrase, reads-unless, reads-note, reads-side, reads-text}
 use Rattle.grammar.specs.Runs.{view, Picks, Run}
 use Rattle.grammar.specs.Refusals.{Why, want, amiss, past, barred, left, unread, ill, Stops, stops-want, stops-past, stops-token, stops-none, stops-in, stops-after, stops-barred, stops-unless, stops-note, stops-side-none, stops-side-in, stops-left, stops-side-after, stops-torn, stops-ill, stops-text}
-use Rattle.grammar.specs.Culprit.{Reach, reach-here, reach-on, Clean, textless}
+use Rattle.grammar.specs.Culprit.{reach-here, reach-on, Clean, textless}
 use Rattle.grammar.proofs.Bools.{and-l, and-r, or-cases, both}
 use Rattle.grammar.proofs.Pass.{each-passes, passes-at}
 use Rattle.grammar.proofs.Core.{chosen-in}
@@ -65,7 +65,7 @@ module _ (quote : ℕ) (wild : List ℕ) where
       | inr q ↦ (q, λ y a b r. c y a b (reach-on e r))
     ]
 
-    sided : (b : Bool) (n₁ : ℕ) (s : List Symbol) → T (not (one-of n₁ wild)) → T (tame s) → T (tame (ite b (phrase same n₁ ∷ s) s))
+    sided : (b : Bool) (n₁ : ℕ) (s : List Symbol) → T (not (one-of n₁ wild)) → T (tame s) → T (tame (cond b (phrase same n₁ ∷ s) s))
     sided true n₁ s h t = both (not (one-of n₁ wild)) (tame s) h t
     sided false n₁ s h t = t
 

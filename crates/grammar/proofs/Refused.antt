@@ -1,12 +1,12 @@
 -- A refusal excludes a run, and there is one refusal.
 use mathlib.Core.Path.{_≡_, refl, sym, _∙_, ap, subst}
 use mathlib.Core.List.{List, _∷_}
-use mathlib.Core.Bool.{Bool}
+use mathlib.Core.Bool.{Bool, cond}
 use mathlib.Core.Option.{Option, none, some}
 use Prim.Native.Nat.{ℕ}
 use lib.Dec.{T, eqb, T-not}
 use native.Mathlib.Omega.{arith}
-use Rattle.grammar.specs.Grammar.{has-value, same, Look, found, Stream, Symbol, phrase, Token, Parts, Language, View, ite, one-of}
+use Rattle.grammar.specs.Grammar.{has-value, same, Look, found, Stream, Symbol, phrase, Token, Parts, Language, View, one-of}
 use Rattle.grammar.specs.Limits.{Counts, after, inside, kept}
 use Rattle.grammar.specs.Choice.{among}
 use Rattle.grammar.specs.Readings.{peek, reads-token, reads-phrase, reads-unless, reads-note, reads-side, reads-text, Reading}
@@ -35,7 +35,7 @@ module _ (S : Stream) (l : Language) where
   not-both (reads-text {d = d} {n = n} {s = s} {x = x} {j = j} e k t) (stops-text {x = x′} {j = j′} {z = z} {y = y} e′ k′ u) =
       let ex : x ≡ x′ = cc in
       let ej : j ≡ j′ = cc in
-      not-both t (subst (λ (q : S .Place). Stops S l (after has-value d) (ite (eqb (x .word) (l .hole)) (phrase same n ∷ s) s) q z y) (sym ej) (subst (λ (q : Token). Stops S l (after has-value d) (ite (eqb (q .word) (l .hole)) (phrase same n ∷ s) s) j′ z y) (sym ex) u))
+      not-both t (subst (λ (q : S .Place). Stops S l (after has-value d) (cond (eqb (x .word) (l .hole)) (phrase same n ∷ s) s) q z y) (sym ej) (subst (λ (q : Token). Stops S l (after has-value d) (cond (eqb (q .word) (l .hole)) (phrase same n ∷ s) s) j′ z y) (sym ex) u))
   not-both (reads-phrase c t u) (stops-none e) = clash e c
   not-both (reads-phrase {d = d} {o = o} {a = a} {i = i} c t u) (stops-in {a = a′} {z = z} {y = y} e f) =
       let ea : a′ ≡ a = cc in not-both t (subst (λ (x : List Symbol). Stops S l (inside o d) x i z y) ea f)
@@ -61,7 +61,7 @@ module _ (S : Stream) (l : Language) where
       let ea : a′ ≡ a = cc in
       let k = one-run S l t (subst (λ (x : List Symbol). Run S l d x i m′ p′) ea t′) in
       let en : l .is-path p′ ≡ l .is-path p = cc (k .1) in
-      not-both u (subst (λ (x : S .Place). Stops S l d (ite (l .is-path p) (phrase same n₁ ∷ s) s) x z y) (sym (k .0)) (subst (λ (x : Bool). Stops S l d (ite x (phrase same n₁ ∷ s) s) m′ z y) en f))
+      not-both u (subst (λ (x : S .Place). Stops S l d (cond (l .is-path p) (phrase same n₁ ∷ s) s) x z y) (sym (k .0)) (subst (λ (x : Bool). Stops S l d (cond x (phrase same n₁ ∷ s) s) m′ z y) en f))
 
   peek-same : {m m′ : S .Place} {p p′ : Parts} → m ≡ m′ → p ≡ p′ → may S l (l .is-path p) (peek S l m) ≡ may S l (l .is-path p′) (peek S l m′)
   peek-same {m} {m′} {p} {p′} e f = ap (λ (x : S .Place). may S l (l .is-path p) (peek S l x)) e ∙ ap (λ (x : Parts). may S l (l .is-path x) (peek S l m′)) f
@@ -88,7 +88,7 @@ module _ (S : Stream) (l : Language) where
   one-stop (stops-text {d = d} {n = n} {s = s} {x = x} {j = j} e k f) (stops-text {x = x′} {j = j′} {z = z′} {y = y′} e′ k′ f′) =
       let ex : x ≡ x′ = cc in
       let ej : j ≡ j′ = cc in
-      one-stop f (subst (λ (q : S .Place). Stops S l (after has-value d) (ite (eqb (x .word) (l .hole)) (phrase same n ∷ s) s) q z′ y′) (sym ej) (subst (λ (q : Token). Stops S l (after has-value d) (ite (eqb (q .word) (l .hole)) (phrase same n ∷ s) s) j′ z′ y′) (sym ex) f′))
+      one-stop f (subst (λ (q : S .Place). Stops S l (after has-value d) (cond (eqb (x .word) (l .hole)) (phrase same n ∷ s) s) q z′ y′) (sym ej) (subst (λ (q : Token). Stops S l (after has-value d) (cond (eqb (q .word) (l .hole)) (phrase same n ∷ s) s) j′ z′ y′) (sym ex) f′))
   one-stop (stops-none e) (stops-none e′) = (refl, refl)
   one-stop (stops-none e) (stops-in c f) = clash e c
   one-stop (stops-none e) (stops-after c t f) = clash e c
@@ -134,7 +134,7 @@ module _ (S : Stream) (l : Language) where
       let ea : a′ ≡ a = cc in
       let k = one-run S l t (subst (λ (x : List Symbol). Run S l d x i m′ p′) ea t′) in
       let en : l .is-path p′ ≡ l .is-path p = cc (k .1) in
-      one-stop f (subst (λ (x : S .Place). Stops S l d (ite (l .is-path p) (phrase same n₁ ∷ s) s) x z′ y′) (sym (k .0)) (subst (λ (x : Bool). Stops S l d (ite x (phrase same n₁ ∷ s) s) m′ z′ y′) en f′))
+      one-stop f (subst (λ (x : S .Place). Stops S l d (cond (l .is-path p) (phrase same n₁ ∷ s) s) x z′ y′) (sym (k .0)) (subst (λ (x : Bool). Stops S l d (cond x (phrase same n₁ ∷ s) s) m′ z′ y′) en f′))
 
   -- so what is refused has no reading
   pub refused : T (all-good l (l .rules)) → {d : Counts} {s : List Symbol} {i r z : S .Place} {p : Parts} {y : Why} (f : List View) → T (closed l s f) → T (among (view S l r) f) → Stops S l d s i z y → Reading S l d s i r p → ⊥

@@ -1,17 +1,17 @@
 -- C-24, its first half: what stands before a refused token begins some text of the grammar.
 use mathlib.Core.Path.{_≡_, refl, sym, _∙_, ap, subst}
 use mathlib.Core.List.{List, [], _∷_}
-use mathlib.Core.Bool.{Bool, true, false, not, _&&_, _||_}
+use mathlib.Core.Bool.{Bool, true, false, not, _&&_, _||_, cond}
 use mathlib.Core.Option.{Option, none, some}
 use mathlib.Core.Logic.{_⊎_, inl, inr}
 use Prim.Native.Nat.{ℕ, suc, zero}
 use lib.Dec.{T, eqb, eqb→eq, eqb-refl}
 use native.Mathlib.Omega.{arith}
-use Rattle.grammar.specs.Grammar.{Ask, has-value, same, Stream, Symbol, token, phrase, unless, note, left-side, text, Rule, Token, Parts, end, leaf, node, mark, Language, ite, one-of, alternatives, In, here, there}
+use Rattle.grammar.specs.Grammar.{Ask, has-value, same, Stream, Symbol, token, phrase, unless, note, left-side, text, Rule, Token, Parts, end, leaf, node, mark, Language, one-of, alternatives, In, here, there}
 use Rattle.grammar.specs.Limits.{Counts, after, inside}
 use Rattle.grammar.specs.Readings.{word-of, peek, Reads, reads-end, reads-token, reads-phrase, reads-unless, reads-note, reads-side, reads-text, Is, ReadingBy}
-use Rattle.grammar.specs.Runs.{view, Picks}
-use Rattle.grammar.specs.Refusals.{Why, want, amiss, past, barred, left, unread, ill, torn, Stops, stops-want, stops-past, stops-token, stops-none, stops-in, stops-after, stops-barred, stops-unless, stops-note, stops-side-none, stops-side-in, stops-left, stops-side-after, stops-torn, stops-ill, stops-text}
+use Rattle.grammar.specs.Runs.{view}
+use Rattle.grammar.specs.Refusals.{Why, torn, Stops, stops-want, stops-past, stops-token, stops-none, stops-in, stops-after, stops-barred, stops-unless, stops-note, stops-side-none, stops-side-in, stops-left, stops-side-after, stops-torn, stops-ill, stops-text}
 use Rattle.grammar.specs.Culprit.{lists, any, Before, before-here, before-there}
 use Rattle.grammar.specs.Choice.{hint-in}
 use Rattle.grammar.proofs.Bools.{and-l, and-r, or-cases, or-l, or-r, F→eq}
@@ -147,7 +147,7 @@ module _ (l : Language) where
     grown (suc k) (text n ∷ s) t =
         let g = grown k s t in
         let x = token-of (suc (l .hole)) in
-        record { part = leaf x (g .part); reads = λ d r. reads-text refl tt (subst (λ (b : Bool). Free (after has-value d) (ite b (phrase same n ∷ s) s) (onto (g .part) r) r (g .part)) (sym (F→eq (eqb (suc (l .hole)) (l .hole)) (λ e. let q = eqb→eq (suc (l .hole)) (l .hole) e in omega arith))) (g .reads (after has-value d) r)) }
+        record { part = leaf x (g .part); reads = λ d r. reads-text refl tt (subst (λ (b : Bool). Free (after has-value d) (cond b (phrase same n ∷ s) s) (onto (g .part) r) r (g .part)) (sym (F→eq (eqb (suc (l .hole)) (l .hole)) (λ e. let q = eqb→eq (suc (l .hole)) (l .hole) e in omega arith))) (g .reads (after has-value d) r)) }
     grown (suc k) (note j ∷ s) t = let g = grown k s t in record { part = mark j (g .part); reads = λ d r. reads-note (g .reads d r) }
     grown (suc k) (left-side n n₁ ∷ s) t =
         let x = given (short n) (λ a. grows k a) in
@@ -156,10 +156,10 @@ module _ (l : Language) where
         let h = given-at (short n) (λ a. grows k a) (and-l x (y && z) t) in
         let b = nth-in (alternatives l n) ((hint-in (l .hints) n) .shortest) (h .0) (h .1) in
         let f = grown k (h .0) (h .2) in
-        let g : Grown (ite (l .is-path (f .part)) (phrase same n₁ ∷ s) s) = either (l .is-path (f .part)) (grown k (phrase same n₁ ∷ s) (and-l y z (and-r x (y && z) t))) (grown k s (and-r y z (and-r x (y && z) t))) in
+        let g : Grown (cond (l .is-path (f .part)) (phrase same n₁ ∷ s) s) = either (l .is-path (f .part)) (grown k (phrase same n₁ ∷ s) (and-l y z (and-r x (y && z) t))) (grown k s (and-r y z (and-r x (y && z) t))) in
         record { part = node n (h .0) (f .part) (g .part); reads = λ d r. reads-side b (f .reads d (onto (g .part) r)) tt (g .reads d r) }
       where
-        either : (b : Bool) → Grown (phrase same n₁ ∷ s) → Grown s → Grown (ite b (phrase same n₁ ∷ s) s)
+        either : (b : Bool) → Grown (phrase same n₁ ∷ s) → Grown s → Grown (cond b (phrase same n₁ ∷ s) s)
         either true u v = u
         either false u v = v
 
@@ -186,7 +186,7 @@ module _ (l : Language) where
       has-leaf (reads-text {i = i} e k t) h = untorn (S .piece i) (silent i) e
       has-leaf (reads-side {n = n} {p = p} {q = q} c t g u) h = or-l (leafy p) (leafy q) (has-leaf t (full-filled l n filling c h))
 
-      firm-on : (b : Bool) (n₁ : ℕ) (s : List Symbol) → T (firm s) → T (firm (ite b (phrase same n₁ ∷ s) s))
+      firm-on : (b : Bool) (n₁ : ℕ) (s : List Symbol) → T (firm s) → T (firm (cond b (phrase same n₁ ∷ s) s))
       firm-on true n₁ s h = h
       firm-on false n₁ s h = h
 
@@ -207,11 +207,11 @@ module _ (l : Language) where
         upto : (c : List Token) → Before S z i (onto part c)
         looks : (c : List Token) → peek S l i ≡ peek lists l (onto part c)
 
-      forked : (n n₁ : ℕ) (s : List Symbol) → T (tails (left-side n n₁ ∷ s)) → (b : Bool) → Grown (ite b (phrase same n₁ ∷ s) s)
+      forked : (n n₁ : ℕ) (s : List Symbol) → T (tails (left-side n n₁ ∷ s)) → (b : Bool) → Grown (cond b (phrase same n₁ ∷ s) s)
       forked n n₁ s t true = grown 64 (phrase same n₁ ∷ s) (and-l (grows 64 (phrase same n₁ ∷ s)) (grows 64 s && tails s) t)
       forked n n₁ s t false = grown 64 s (and-l (grows 64 s) (tails s) (and-r (grows 64 (phrase same n₁ ∷ s)) (grows 64 s && tails s) t))
 
-      tails-on : (b : Bool) (n n₁ : ℕ) (s : List Symbol) → T (tails (left-side n n₁ ∷ s)) → T (tails (ite b (phrase same n₁ ∷ s) s))
+      tails-on : (b : Bool) (n n₁ : ℕ) (s : List Symbol) → T (tails (left-side n n₁ ∷ s)) → T (tails (cond b (phrase same n₁ ∷ s) s))
       tails-on true n n₁ s t = and-r (grows 64 (phrase same n₁ ∷ s)) (grows 64 s && tails s) t
       tails-on false n n₁ s t = and-r (grows 64 s) (tails s) (and-r (grows 64 (phrase same n₁ ∷ s)) (grows 64 s && tails s) t)
 

@@ -1,10 +1,10 @@
 -- What a predictive reader looks at, and which alternative of a kind it takes there.
 use mathlib.Core.List.{List, [], _∷_, _++_}
-use mathlib.Core.Bool.{Bool, true, false, _&&_, _||_}
+use mathlib.Core.Bool.{Bool, true, false, _&&_, _||_, cond}
 use mathlib.Core.Option.{Option, none, some}
 use Prim.Native.Nat.{ℕ}
 use lib.Dec.{eqb}
-use Rattle.grammar.specs.Grammar.{Symbol, token, phrase, unless, note, left-side, text, View, one, pair, Pair, Hint, Language, ite, one-of, alternatives}
+use Rattle.grammar.specs.Grammar.{Symbol, token, phrase, unless, note, left-side, text, View, one, pair, Pair, Hint, Language, one-of, alternatives}
 
 abbrev pub or-else : {A : Type 0} → Option A → Option A → Option A
 or-else none b = b
@@ -29,7 +29,7 @@ no-hint = record { kind = 0; firsts = []; follows = []; full = false; shortest =
 
 abbrev pub hint-in : List Hint → ℕ → Hint
 hint-in [] n = no-hint
-hint-in (h ∷ hs) n = let k = hint-in hs n in ite (eqb n (h .kind)) h k
+hint-in (h ∷ hs) n = let k = hint-in hs n in cond (eqb n (h .kind)) h k
 
 -- a word in front of one that it is looked at with; a word that is looked at with the next
 abbrev pub flag : List Pair → ℕ → ℕ → Bool
@@ -56,7 +56,7 @@ hollow (text n ∷ s) = false
 
 abbrev pub hollows : List (List Symbol) → Option (List Symbol)
 hollows [] = none
-hollows (a ∷ ss) = ite (hollow a) (some a) (hollows ss)
+hollows (a ∷ ss) = cond (hollow a) (some a) (hollows ss)
 
 abbrev pub only : List (List Symbol) → Option (List Symbol)
 only [] = none
@@ -75,19 +75,19 @@ module _ (l : Language) where
   follows n = (hint-in (l .hints) n) .follows
 
   abbrev pub see : ℕ → ℕ → View
-  see c d = ite (flag (l .pairs) c d) (pair c) (one c)
+  see c d = cond (flag (l .pairs) c d) (pair c) (one c)
 
   -- what may begin an alternative behind which f may stand
   abbrev pub minus : List View → List ℕ → List View
   minus [] s = []
-  minus (v ∷ vs) s = ite (one-of (base v) s) (minus vs s) (v ∷ minus vs s)
+  minus (v ∷ vs) s = cond (one-of (base v) s) (minus vs s) (v ∷ minus vs s)
 
   abbrev pub sees : ℕ → List View → List View
   sees c [] = []
   sees c (v ∷ vs) = see c (base v) ∷ sees c vs
 
   abbrev pub front : ℕ → List View → List View
-  front c vs = let r = sees c vs in ite (two (l .pairs) c) r (one c ∷ [])
+  front c vs = let r = sees c vs in cond (two (l .pairs) c) r (one c ∷ [])
 
   abbrev pub fronts : List ℕ → List View → List View
   fronts [] vs = []
@@ -105,7 +105,7 @@ module _ (l : Language) where
   -- the alternative that begins with what is seen; else one that begins with its word; else the idle one
   abbrev pub choose : List (List Symbol) → List View → View → Option (List Symbol)
   choose [] f v = none
-  choose (a ∷ ss) f v = ite (among v (first a f)) (some a) (choose ss f v)
+  choose (a ∷ ss) f v = cond (among v (first a f)) (some a) (choose ss f v)
 
   abbrev pub spare : List (List Symbol) → List View → ℕ → Option (List Symbol)
   spare ss f c = or-else (choose ss f (one c)) (or-else (choose ss f (pair c)) (idle ss))

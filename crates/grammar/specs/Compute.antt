@@ -1,10 +1,10 @@
 -- The predictive reader as one function, for computing: a run, a refusal, or no fuel left.
 use mathlib.Core.List.{List, [], _∷_}
-use mathlib.Core.Bool.{Bool, true, false, not}
+use mathlib.Core.Bool.{Bool, true, false, not, cond}
 use mathlib.Core.Option.{Option, none, some}
 use Prim.Native.Nat.{ℕ, suc, zero}
 use lib.Dec.{eqb}
-use Rattle.grammar.specs.Grammar.{has-value, same, Look, found, over, wrong, Stream, Symbol, token, phrase, unless, note, left-side, text, Token, Parts, end, leaf, node, mark, Language, ite, one-of}
+use Rattle.grammar.specs.Grammar.{has-value, same, Look, found, over, wrong, Stream, Symbol, token, phrase, unless, note, left-side, text, Token, Parts, end, leaf, node, mark, Language, one-of}
 use Rattle.grammar.specs.Limits.{Counts, zeros, after, inside, kept}
 use Rattle.grammar.specs.Choice.{chosen}
 use Rattle.grammar.specs.Readings.{peek}
@@ -56,10 +56,10 @@ module _ (S : Stream) where
     run (suc k) d (left-side n n₁ ∷ s) i =
         picked (chosen l n (view S l i)) (fail i (amiss n)) λ a.
         and-then (run k d a i) λ p m.
-        asked (may S l (l .is-path p) (peek S l m)) (λ u. and-then (run k d (ite (l .is-path p) (phrase same n₁ ∷ s) s) m) λ q r. done (node n a p q) r) (fail m (left p))
+        asked (may S l (l .is-path p) (peek S l m)) (λ u. and-then (run k d (cond (l .is-path p) (phrase same n₁ ∷ s) s) m) λ q r. done (node n a p q) r) (fail m (left p))
     run (suc k) d (text n ∷ s) i =
         taken (S .piece i) (fail i unread) λ x j.
-        asked (kept has-value d x) (λ v. and-then (run k (after has-value d) (ite (eqb (x .word) (l .hole)) (phrase same n ∷ s) s) j) (λ p r. done (leaf x p) r)) (fail i (ill x))
+        asked (kept has-value d x) (λ v. and-then (run k (after has-value d) (cond (eqb (x .word) (l .hole)) (phrase same n ∷ s) s) j) (λ p r. done (leaf x p) r)) (fail i (ill x))
 
 -- The answer to a source, if the fuel lasts.
 module _ (S : Stream) (tests tree : Bool) (len : ℕ) where

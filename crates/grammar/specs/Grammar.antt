@@ -1,6 +1,6 @@
 -- What a grammar is made of, as data; what stands at a place of a source; what a reading is made of.
 use mathlib.Core.List.{List, [], _∷_}
-use mathlib.Core.Bool.{Bool, true, false, _||_}
+use mathlib.Core.Bool.{Bool, false, _||_, cond}
 use Prim.Native.Nat.{ℕ}
 use lib.Dec.{eqb}
 
@@ -91,10 +91,6 @@ pub record Language : Type 0 where
   pub hints : List Hint
   pub pairs : List Pair
 
-abbrev pub ite {ℓ} : {A : Type ℓ} → Bool → A → A → A
-ite true a b = a
-ite false a b = b
-
 abbrev pub one-of : ℕ → List ℕ → Bool
 one-of c [] = false
 one-of c (x ∷ xs) = eqb c x || one-of c xs
@@ -102,7 +98,7 @@ one-of c (x ∷ xs) = eqb c x || one-of c xs
 -- The alternatives of a kind.
 abbrev pub alternatives-in : List Rule → ℕ → List (List Symbol)
 alternatives-in [] n = []
-alternatives-in (r ∷ rs) n = let k = alternatives-in rs n in ite (eqb n (r .kind)) (r .alternatives) k
+alternatives-in (r ∷ rs) n = let k = alternatives-in rs n in cond (eqb n (r .kind)) (r .alternatives) k
 
 abbrev pub alternatives : Language → ℕ → List (List Symbol)
 alternatives l n = alternatives-in (l .rules) n

@@ -1,11 +1,11 @@
 -- What a source is under a grammar: its readings.
 use mathlib.Core.Path.{_≡_}
 use mathlib.Core.List.{List, [], _∷_}
-use mathlib.Core.Bool.{Bool, true, not}
+use mathlib.Core.Bool.{Bool, true, not, cond}
 use Prim.Native.Nat.{ℕ}
 use lib.Dec.{T, eqb}
 use Rattle.grammar.specs.Words.{the-end, no-token}
-use Rattle.grammar.specs.Grammar.{Ask, has-value, Scope, same, Symbol, token, phrase, unless, note, left-side, text, Token, Look, found, over, wrong, Stream, Parts, end, leaf, node, mark, Language, alternatives, In, ite, one-of}
+use Rattle.grammar.specs.Grammar.{Ask, has-value, Scope, same, Symbol, token, phrase, unless, note, left-side, text, Token, Look, found, over, wrong, Stream, Parts, end, leaf, node, mark, Language, alternatives, In, one-of}
 use Rattle.grammar.specs.Limits.{Counts, zeros, after, inside, kept}
 
 module _ (S : Stream) (l : Language) where
@@ -42,12 +42,12 @@ module _ (S : Stream) (l : Language) where
     -- one alternative of the first kind; where it is a path, a phrase of the second kind; then the rest
     reads-side : {d : Counts} {n n₁ : ℕ} {a s : List Symbol} {i m r : S .Place} {p q : Parts}
         → takes n i a → Reads passes stands takes d a i m p → T (stands (l .is-path p) (peek m))
-        → Reads passes stands takes d (ite (l .is-path p) (phrase same n₁ ∷ s) s) m r q
+        → Reads passes stands takes d (cond (l .is-path p) (phrase same n₁ ∷ s) s) m r q
         → Reads passes stands takes d (left-side n n₁ ∷ s) i r (node n a p q)
     -- a piece of text; where a hole follows, a phrase of a kind; then the rest
     reads-text : {d : Counts} {n : ℕ} {s : List Symbol} {x : Token} {i j r : S .Place} {p : Parts}
         → S .piece i ≡ found x j → T (passes has-value d x)
-        → Reads passes stands takes (after has-value d) (ite (eqb (x .word) (l .hole)) (phrase same n ∷ s) s) j r p
+        → Reads passes stands takes (after has-value d) (cond (eqb (x .word) (l .hole)) (phrase same n ∷ s) s) j r p
         → Reads passes stands takes d (text n ∷ s) i r (leaf x p)
 
   -- A reading takes any alternative of the grammar.

@@ -1,11 +1,11 @@
 -- Refusals: where a predictive reader stops, for what reason, and document 01's number and place for it.
 use mathlib.Core.Path.{_≡_}
 use mathlib.Core.List.{List, _∷_}
-use mathlib.Core.Bool.{Bool, true, false, not}
+use mathlib.Core.Bool.{Bool, true, false, not, cond}
 use mathlib.Core.Option.{none}
 use Prim.Native.Nat.{ℕ}
 use lib.Dec.{T, eqb}
-use Rattle.grammar.specs.Grammar.{Ask, plain, has-value, opens-bracket, closes-bracket, is-prefix, is-head, is-else-if, Scope, same, Symbol, token, phrase, unless, note, left-side, text, Token, Look, found, over, wrong, Stream, Parts, Language, ite, one-of}
+use Rattle.grammar.specs.Grammar.{Ask, plain, has-value, opens-bracket, closes-bracket, is-prefix, is-head, is-else-if, Scope, same, Symbol, token, phrase, unless, note, left-side, text, Token, Look, found, over, wrong, Stream, Parts, Language, one-of}
 use Rattle.grammar.specs.Limits.{Counts, after, inside, kept}
 use Rattle.grammar.specs.Choice.{chosen}
 use Rattle.grammar.specs.Readings.{peek}
@@ -108,12 +108,12 @@ module _ (S : Stream) (l : Language) where
         → Stops d (left-side n n₁ ∷ s) i m (left p)
     stops-side-after : {d : Counts} {n n₁ : ℕ} {a s : List Symbol} {i m z : S .Place} {p : Parts} {y : Why}
         → Picks S l n i a → Run S l d a i m p → T (may S l (l .is-path p) (peek S l m))
-        → Stops d (ite (l .is-path p) (phrase same n₁ ∷ s) s) m z y → Stops d (left-side n n₁ ∷ s) i z y
+        → Stops d (cond (l .is-path p) (phrase same n₁ ∷ s) s) m z y → Stops d (left-side n n₁ ∷ s) i z y
     stops-torn : {d : Counts} {n : ℕ} {s : List Symbol} {i : S .Place}
         → T (torn (S .piece i)) → Stops d (text n ∷ s) i i unread
     stops-ill : {d : Counts} {n : ℕ} {s : List Symbol} {x : Token} {i j : S .Place}
         → S .piece i ≡ found x j → T (not (kept has-value d x)) → Stops d (text n ∷ s) i i (ill x)
     stops-text : {d : Counts} {n : ℕ} {s : List Symbol} {x : Token} {i j z : S .Place} {y : Why}
         → S .piece i ≡ found x j → T (kept has-value d x)
-        → Stops (after has-value d) (ite (eqb (x .word) (l .hole)) (phrase same n ∷ s) s) j z y
+        → Stops (after has-value d) (cond (eqb (x .word) (l .hole)) (phrase same n ∷ s) s) j z y
         → Stops d (text n ∷ s) i z y

@@ -1,16 +1,13 @@
--- The rows of a reading. A row is six numbers: kind, start, end, children, value, detail. Children come before their
--- parent, left to right. 1 name; 2 path; 3 `!`; 4 `()`; 5 type `?`; 6 path type (1: brackets); 7 record type; 8 name with
--- type; 10 integer; 11 float; 12 bool; 13 AS; 14 IPv4; 15 IPv6; 16 string; 17 char; 20 binary (detail 1 to 13); 21 `!`;
--- 22 `-`; 23 call; 24 access; 25 `?`; 26 assign (detail 0, then 1 to 5); 27 return form (detail 1, 2, 3); 28 if; 29 while;
--- 30 for; 31 match; 32 arm (1: guard); 33 `_`; 34 variant (1: parentheses); 35 block (1: has last); 36 record (1: path
--- first); 37 field; 38 let (1: type); 39 import; 40 const; 41 fn (1: type); 42 test; 43 tree; 44 importpath; 45 filter,
--- filtermap (detail 1, 2). The table says where each is made; here stands what a row holds.
+-- The rows of a reading. "A row is six numbers: kind, start, end, children, value, detail. Children come before their
+-- parent, left to right." The kinds have names in rows/specs/Kinds.antt, the table says where each is made; here stands
+-- what a row holds.
 use mathlib.Core.List.{List, [], _∷_, _++_}
-use mathlib.Core.Bool.{Bool, true, false}
+use mathlib.Core.Bool.{Bool, true, false, cond}
 use Prim.Native.Nat.{ℕ, suc, _+_}
 use lib.Dec.{eqb}
+use Rattle.rows.specs.Kinds as kinds
 use Rattle.grammar.specs.Words.{'+=', '-=', '*=', '/=', '%=', binary-signs, return-words, filter-words, text-then-hole, last-text}
-use Rattle.grammar.specs.Grammar.{Token, Parts, end, leaf, node, mark, ite, one-of}
+use Rattle.grammar.specs.Grammar.{Token, Parts, end, leaf, node, mark, one-of}
 use Rattle.grammar.specs.Table.{rest-kinds, literal-row}
 
 pub record Row : Type 0 where
@@ -75,7 +72,7 @@ sign-of (child r ∷ xs) = sign-of xs
 -- The place of a word in a list, from 1; 0 where it isn't there.
 abbrev pub place-in : ℕ → List ℕ → ℕ
 place-in c [] = 0
-place-in c (x ∷ xs) = let k = place-in c xs in ite (eqb c x) 1 (ite (eqb k 0) 0 (suc k))
+place-in c (x ∷ xs) = let k = place-in c xs in cond (eqb c x) 1 (cond (eqb k 0) 0 (suc k))
 
 -- "20 binary (detail 1 to 13: `|| && == != < <= > >= + - * / %`)", "26 assign (detail 0, then 1 to 5 as listed above)",
 -- "27 return form (detail 1, 2, 3)", "45 filter, filtermap (detail 1, 2)". "Unnamed value and detail are 0."
@@ -85,11 +82,11 @@ detail-for k sign =
     let assign = place-in sign ('+=' ∷ '-=' ∷ '*=' ∷ '/=' ∷ '%=' ∷ []) in
     let returns = place-in sign return-words in
     let filters = place-in sign filter-words in
-    ite (eqb k 20) binary (ite (eqb k 26) assign (ite (eqb k 27) returns (ite (eqb k 45) filters 0)))
+    cond (eqb k kinds.BINARY) binary (cond (eqb k kinds.ASSIGN) assign (cond (eqb k kinds.RETURN) returns (cond (eqb k kinds.FILTER) filters 0)))
 
 -- A literal's row is what its token says: "Rows 10 to 14 hold their value (`true` 1, first octet highest), but a float 0."
 abbrev pub literal-of : List Item → Row
-literal-of [] = record { kind = 0; start = 0; end = 0; children = 0; value = 0; detail = 0 }
+literal-of [] = record { kind = kinds.NONE; start = 0; end = 0; children = 0; value = 0; detail = 0 }
 literal-of (own x ∷ xs) = record { kind = x .kind; start = x .start; end = x .end; children = 0; value = x .value; detail = x .detail }
 literal-of (child r ∷ xs) = r
 
@@ -98,7 +95,7 @@ unfoldable pub row-of : ℕ → List Item → ℕ → Row
 row-of k xs part =
     let l : Row = literal-of xs in
     let r : Row = record { kind = k; start = starts xs; end = ends xs; children = count xs; value = part; detail = detail-for k (sign-of xs) } in
-    ite (eqb k literal-row) l r
+    cond (eqb k literal-row) l r
 
 -- The rows written; what the phrase that is being read has; 1 if the part of which its row's value tells is there.
 pub record Draft : Type 0 where
@@ -117,7 +114,7 @@ unfoldable pub take-note : ℕ → Draft → Draft
 take-note k a =
     let n : Draft = record { rows = a .rows; items = a .items; part = 1 } in
     let r : Draft = add-row (row-of k (a .items) (a .part)) a in
-    ite (eqb k 0) n r
+    cond (eqb k 0) n r
 
 -- A word; or a piece of text, which is a row if it has a byte (C-11: "47 for a text part, value its final byte count
 -- (empty ones give none)").
@@ -125,13 +122,13 @@ abbrev pub is-text : Token → Bool
 is-text x = one-of (x .word) (text-then-hole ∷ last-text ∷ [])
 
 abbrev pub text-row : Token → Row
-text-row x = record { kind = 47; start = x .start; end = x .end; children = 0; value = x .value; detail = 0 }
+text-row x = record { kind = kinds.TEXT; start = x .start; end = x .end; children = 0; value = x .value; detail = 0 }
 
 unfoldable pub add-token : Token → Draft → Draft
 add-token x a =
     let w : Draft = record { rows = a .rows; items = a .items ++ (own x ∷ []); part = a .part } in
     let t : Draft = record { rows = a .rows ++ (text-row x ∷ []); items = a .items ++ (child (text-row x) ∷ []); part = a .part } in
-    ite (is-text x) (ite (eqb (x .value) 0) w t) w
+    cond (is-text x) (cond (eqb (x .value) 0) w t) w
 
 -- A phrase in a phrase begins with nothing and leaves its rows without a parent: so "parentheses round an expr give no
 -- row and widen no span". The rest of a phrase goes on with what the phrase has.
@@ -151,7 +148,7 @@ write (mark k p) a = write p (take-note k a)
 
 -- "Tree spans the source": its row comes last.
 abbrev pub tree-row : ℕ → Draft → Row
-tree-row len a = record { kind = 43; start = 0; end = len; children = count (a .items); value = 0; detail = 0 }
+tree-row len a = record { kind = kinds.TREE; start = 0; end = len; children = count (a .items); value = 0; detail = 0 }
 
 -- The rows of a tree, or of one expression, of a source of `len` bytes.
 unfoldable pub rows-from : Bool → ℕ → Draft → List Row
@@ -164,10 +161,10 @@ rows tree len p = rows-from tree len (write p blank)
 
 -- The nodes of a reading: its phrases that have a row, and its pieces of text that have a byte.
 abbrev pub mark-nodes : ℕ → ℕ
-mark-nodes k = ite (eqb k 0) 0 1
+mark-nodes k = cond (eqb k 0) 0 1
 
 abbrev pub token-nodes : Token → ℕ
-token-nodes x = ite (is-text x) (ite (eqb (x .value) 0) 0 1) 0
+token-nodes x = cond (is-text x) (cond (eqb (x .value) 0) 0 1) 0
 
 unfoldable pub nodes : Parts → ℕ
 nodes end = 0
@@ -177,7 +174,7 @@ nodes (mark k p) = mark-nodes k + nodes p
 
 -- The row of a phrase: the one that it leaves.
 abbrev pub first-row : List Item → Row
-first-row [] = record { kind = 0; start = 0; end = 0; children = 0; value = 0; detail = 0 }
+first-row [] = record { kind = kinds.NONE; start = 0; end = 0; children = 0; value = 0; detail = 0 }
 first-row (own x ∷ xs) = first-row xs
 first-row (child r ∷ xs) = r
 

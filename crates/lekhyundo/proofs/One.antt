@@ -4,7 +4,7 @@ use mathlib.Core.List.{List}
 use mathlib.Core.Bool.{Bool, true}
 use Prim.Native.Nat.{ℕ}
 use lib.Seq.{sets}
-use Rattle.tokens.specs.declared.Answer.{Answer}
+use Rattle.chars.specs.declared.Answer.{Answer}
 use Rattle.answers.proofs.Determined.{one-permitted}
 use Rattle.literals.specs.declared.Answer as literals
 use Rattle.literals.proofs.Answered.{one-answer}

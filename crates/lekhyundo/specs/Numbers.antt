@@ -1,12 +1,12 @@
 -- The answers as runs of numbers.
 use Prim.Native.Nat.{ℕ}
 use mathlib.Core.List.{List, [], _∷_}
-use Rattle.tokens.specs.declared.Answer.{Answer}
-use Rattle.strings.specs.declared.Answer as strings
+use Rattle.chars.specs.declared.Answer.{Answer}
 use Rattle.values.specs.declared.Literal.{Literal}
 use Rattle.literals.specs.declared.Answer as literals
 use Rattle.tokens.specs.declared.Step.{Step}
 use Rattle.tokens.specs.declared.Step.the-variants.{Taken, Refused}
+use Rattle.tokens.specs.Words.{codeOf}
 
 -- "An answer is number, place and a count"
 unfoldable pub answerNumbers : Answer → List ℕ
@@ -14,11 +14,8 @@ answerNumbers a = a .number ∷ a .start ∷ a .end ∷ a .count ∷ []
 
 -- a token as 0, its ends, its code and its word; a refusal as its number and place, and zeros
 unfoldable pub stepNumbers : Step → List ℕ
-stepNumbers (Taken t w next) = 0 ∷ t .start ∷ t .end ∷ t .code ∷ w ∷ []
+stepNumbers (Taken w a next) = 0 ∷ a ∷ next .at ∷ codeOf w ∷ w ∷ []
 stepNumbers (Refused r) = r .number ∷ r .start ∷ r .end ∷ 0 ∷ 0 ∷ []
-
-unfoldable pub decodeNumbers : strings.Answer → List ℕ
-decodeNumbers a = a .number ∷ a .start ∷ a .end ∷ a .count ∷ []
 
 -- a literal's row, behind 0; or 7, "literal without a value"
 unfoldable pub literalNumbers : Literal → List ℕ

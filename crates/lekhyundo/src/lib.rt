@@ -3,15 +3,17 @@ ghost use mathlib.Core.Path.{_≡_};
 ghost use mathlib.Core.Bool.{true, false};
 ghost use lib.ListN.{set, length};
 ghost use lib.Seq.{sets, slice};
+ghost use Rattle.tokens.specs.declared.Refusal.{Refusal};
+ghost use Rattle.tokens.specs.declared.Step.the-variants.{Refused};
 ghost use Rattle.tokens.specs.Tokens.{stepAt, answerOf};
 ghost use Rattle.list.specs.Filled.{filled};
 ghost use Rattle.strings.specs.Strings.{answerOf as decodeAnswer, contentOf};
 ghost use Rattle.entry.specs.Entries.{nameText};
 ghost use Rattle.values.specs.Literals.{literalOf};
-ghost use Rattle.lekhyundo.specs.Numbers.{answerNumbers, stepNumbers, decodeNumbers, literalNumbers};
+ghost use Rattle.lekhyundo.specs.Numbers.{answerNumbers, stepNumbers, literalNumbers};
 ghost use Rattle.lekhyundo.specs.Entered.{Entered};
 ghost use Rattle.lekhyundo.specs.Floated.{Floated};
-use tokens::Answer;
+use chars::Answer;
 use tokens::Cursor;
 use tokens::Step;
 use tokens::Token;
@@ -51,41 +53,46 @@ pub extern "C" fn lekhyundo_token_list(s: &[u8], tokens: &mut [Token], out: &mut
     put_answer(out, a);
 }
 
+// A step that hands back no token: number, start, end, 0, 0.
+fn put_refusal(out: &mut [u64], step: Step)
+    ensures { λ r. ⌜ ((why : Refusal) → step ≡ Refused why → now (out .exit) ≡ sets (now (out .entry)) 0 (stepNumbers step)) ⌝ }
+{
+    let Step::Refused(why) = step else {
+        return;
+    };
+    put(out, 0, why.number);
+    put(out, 1, why.start as u64);
+    put(out, 2, why.end as u64);
+    put(out, 3, 0);
+    put(out, 4, 0);
+}
+
 // The token at a place: 0, start, end, code, word; or a refusal: number, start, end, 0, 0.
 #[no_mangle]
 pub extern "C" fn lekhyundo_step(s: &[u8], at: usize, out: &mut [u64])
     ensures { λ r. ⌜ now (out .exit) ≡ sets (now (out .entry)) 0 (stepNumbers (stepAt (now (s .entry)) at)) ⌝ }
 {
     let cursor = Cursor { at };
-    match cursor.step(s) {
-        Step::Taken(token, word, _) => {
-            put(out, 0, 0);
-            put(out, 1, token.start as u64);
-            put(out, 2, token.end as u64);
-            put(out, 3, token.code);
-            put(out, 4, word);
-        }
-        Step::Refused(refusal) => {
-            put(out, 0, refusal.number);
-            put(out, 1, refusal.start as u64);
-            put(out, 2, refusal.end as u64);
-            put(out, 3, 0);
-            put(out, 4, 0);
-        }
-    }
+    let step = cursor.step(s);
+    let Step::Taken(word, start, next) = step else {
+        put_refusal(out, step);
+        return;
+    };
+    put(out, 0, 0);
+    put(out, 1, start as u64);
+    put(out, 2, next.at as u64);
+    put(out, 3, tokens::code_of(word));
+    put(out, 4, word);
 }
 
 // (e): a string token decoded into the lent bytes; number, start, end, count.
 #[no_mangle]
 pub extern "C" fn lekhyundo_decode(s: &[u8], out: &mut [u8], answer: &mut [u64])
-    ensures { λ r. ⌜ now (answer .exit) ≡ sets (now (answer .entry)) 0 (decodeNumbers (decodeAnswer (now (s .entry)) (length (now (out .entry))))) ⌝ }
+    ensures { λ r. ⌜ now (answer .exit) ≡ sets (now (answer .entry)) 0 (answerNumbers (decodeAnswer (now (s .entry)) (length (now (out .entry))))) ⌝ }
     ensures { λ r. ⌜ now (out .exit) ≡ contentOf (now (s .entry)) (length (now (out .entry))) ⌝ }
 {
     let a = strings::decode(s, out);
-    put(answer, 0, a.number);
-    put(answer, 1, a.start as u64);
-    put(answer, 2, a.end as u64);
-    put(answer, 3, a.count as u64);
+    put_answer(answer, a);
 }
 
 // The value of the token of a code between two places: 0, kind, value, detail; or 7 and zeros for a literal without a value.

@@ -2,18 +2,18 @@
 use mathlib.Core.Path.{_≡_, refl, sym, ap, _∙_, subst}
 use Prim.Native.Nat.{ℕ, zero, suc, _+_, _<_}
 use mathlib.Core.List.{List}
-use mathlib.Core.Bool.{Bool, true, false}
+use mathlib.Core.Bool.{Bool, true, false, cond}
 use native.Mathlib.Omega.{arith}
 use lib.ListN.{length}
 use lib.Dec.{eqb, ltb}
 use borrow.Author.Tests.{ne-eqb, lt-leb}
 use Rattle.chars.specs.declared.Class.the-variants.{Ascii}
-use Rattle.chars.specs.Chars.{pick, isClass}
+use Rattle.chars.specs.Chars.{isClass}
 use Rattle.chars.specs.Runs.{pastRun}
 use Rattle.tokens.specs.declared.Fit.{Fit}
 use Rattle.tokens.specs.declared.Fit.the-variants.{To, No}
 use Rattle.tokens.specs.declared.Refusal.{Refusal}
-use Rattle.tokens.specs.declared.Answer.{Answer}
+use Rattle.chars.specs.declared.Answer.{Answer}
 use Rattle.tokens.specs.declared.Step.{Step}
 use Rattle.tokens.specs.declared.Step.the-variants.{Taken, Refused}
 use Rattle.tokens.specs.declared.Whole.{Whole}
@@ -24,7 +24,7 @@ use Rattle.tokens.specs.Tokens.{stepAt, wholeOf, Listed, listFrom, listOf, refu
 use Rattle.tokens.proofs.Lists.{list-taken, list-refused}
 
 abbrev Numbered : Step → Type 0
-Numbered (Taken t w next) = Unit {0}
+Numbered (Taken w a next) = Unit {0}
 Numbered (Refused r) = r .number ≡ 0 → ⊥
 
 or-numbered : (at : ℕ) (f : Fit) (d : Step) → Numbered d → Numbered (orElse at f d)
@@ -32,7 +32,7 @@ unfolding orElse taken
 or-numbered at (To e w) d h = tt
 or-numbered at No d h = h
 
-pick-numbered : (t : Bool) (a b : Step) → Numbered a → Numbered b → Numbered (pick t a b)
+pick-numbered : (t : Bool) (a b : Step) → Numbered a → Numbered b → Numbered (cond t a b)
 pick-numbered true a b h k = h
 pick-numbered false a b h k = k
 
@@ -64,14 +64,14 @@ ending-numbered zero s at = λ e. omega (arith, e)
 ending-numbered (suc n) s at = go (stepAt s at) refl (ending-numbered n s)
   where
     go : (x : Step) → stepAt s at ≡ x → ((next : ℕ) → listFrom n s next .ending .number ≡ 0 → ⊥) → listFrom (suc n) s at .ending .number ≡ 0 → ⊥
-    go (Taken t w next) e rest h = rest (next .at) (sym (ap (λ (l : Listed). l .ending .number) (list-taken n s at e)) ∙ h)
+    go (Taken w a next) e rest h = rest (next .at) (sym (ap (λ (l : Listed). l .ending .number) (list-taken n s at e)) ∙ h)
     go (Refused r) e rest h = refusal-numbered s at e (sym (ap (λ (l : Listed). l .ending .number) (list-refused n s at e)) ∙ h)
 
 abbrev WholeNumbered : Whole → Type 0
 WholeNumbered Fine = Unit {0}
 WholeNumbered (Bad r) = r .number ≡ 0 → ⊥
 
-pick-whole : (t : Bool) (a b : Whole) → WholeNumbered a → WholeNumbered b → WholeNumbered (pick t a b)
+pick-whole : (t : Bool) (a b : Whole) → WholeNumbered a → WholeNumbered b → WholeNumbered (cond t a b)
 pick-whole true a b h k = h
 pick-whole false a b h k = k
 
@@ -94,6 +94,6 @@ module _ (s : List ℕ) (n : ℕ) where
   unfolding answerOf listOf
   more-fails e h = rw e (go (eqb (listOf s .ending .number) 11) refl)
     where
-      go : (t : Bool) → eqb (listOf s .ending .number) 11 ≡ t → accepts (pick t (counted (length s) (length (listOf s .tokens)) n) (refusal (listOf s .ending))) ≡ false
+      go : (t : Bool) → eqb (listOf s .ending .number) 11 ≡ t → accepts (cond t (counted (length s) (length (listOf s .tokens)) n) (refusal (listOf s .ending))) ≡ false
       go true _ = rw (lt-leb (length (listOf s .tokens)) n h) refl
       go false _ = ne-eqb _ _ (ending-numbered (length s + 1) s 0)

@@ -2,7 +2,7 @@
 use mathlib.Core.Path.{_≡_, refl, sym, ap, _∙_}
 use Prim.Native.Nat.{ℕ, zero, suc, _+_, _-_, _<_, _≤_}
 use mathlib.Core.List.{List, [], _∷_, _++_, append-nil}
-use mathlib.Core.Bool.{Bool, true, false}
+use mathlib.Core.Bool.{Bool, true, false, cond}
 use native.Mathlib.Numerals.{add-one}
 use native.Mathlib.Nat.{sub-zero}
 use native.Mathlib.Omega.{arith}
@@ -10,7 +10,6 @@ use lib.ListN.{length, set, length-set, take, drop, replicate, length-drop, take
 use lib.Seq.{take-suc-set, take-set-le, take-at, drop-at, take-all}
 use lib.Dec.{eqb, ltb}
 use borrow.Author.Tests.{ne-eqb, le-leb, ltb-true, ltb-false}
-use Rattle.chars.specs.Chars.{pick}
 use Rattle.tokens.specs.declared.Token.{Token}
 use Rattle.tokens.specs.declared.Cursor.{Cursor}
 use Rattle.tokens.specs.declared.Refusal.{Refusal}
@@ -18,13 +17,13 @@ use Rattle.tokens.specs.declared.Step.{Step}
 use Rattle.tokens.specs.declared.Step.the-variants.{Taken, Refused}
 use Rattle.tokens.specs.declared.Whole.{Whole}
 use Rattle.tokens.specs.declared.Whole.the-variants.{Fine, Refused as Bad}
-use Rattle.tokens.specs.Tokens.{stepAt, wholeOf, listFrom, listOf, lastOf, answerOf}
+use Rattle.tokens.specs.Tokens.{stepAt, wholeOf, tokenOf, listFrom, listOf, lastOf, answerOf}
 use Rattle.tokens.proofs.Steps.{taken-good}
 use Rattle.tokens.proofs.Lists.{list-taken, list-refused, enough, Counted, none-counted, one-counted, all-counted}
 use Rattle.list.specs.declared.State.{State}
 use Rattle.list.specs.declared.Stored.{Stored}
 use Rattle.list.specs.Filled.{zeroToken, filled}
-use Rattle.list.specs.States.{failed, complete, ended, onward, full, standing, begunBy, begun, readBy, zeroNext, nextOf}
+use Rattle.list.specs.States.{failed, complete, ended, onward, standing, begunBy, begun, readBy, zeroNext, nextOf}
 use Rattle.list.proofs.Refusals.{refusal-numbered, whole-fails, more-fails}
 
 -- the front of a list, one longer
@@ -45,10 +44,10 @@ stored-more xs l p {t} e h same = take-suc-set l p t h ∙ ap (λ y. y ++ t ∷ 
 abbrev pub tokensAt : List ℕ → ℕ → List Token
 tokensAt s at = listFrom (suc (length s - at)) s at .tokens
 
-tokens-taken : (s : List ℕ) (at : ℕ) → at ≤ length s → {t : Token} {w : ℕ} {next : Cursor} → stepAt s at ≡ Taken t w next → tokensAt s at ≡ t ∷ tokensAt s (next .at)
-tokens-taken s at h {t} {w} {next} e =
-    let f : ((at ≤ t .start) × (t .start < t .end)) × ((t .end ≤ length s) × (next .at ≡ t .end)) = taken-good s at e in
-    ap (λ l. l .tokens) (list-taken (length s - at) s at e) ∙ ap (λ l. t ∷ l .tokens) (enough (length s - at) (suc (length s - next .at)) s (next .at) (omega (arith, f)) (omega (arith, f)) (omega (arith, f)))
+tokens-taken : (s : List ℕ) (at : ℕ) → at ≤ length s → {w a : ℕ} {next : Cursor} → stepAt s at ≡ Taken w a next → tokensAt s at ≡ tokenOf w a next ∷ tokensAt s (next .at)
+tokens-taken s at h {w} {a} {next} e =
+    let f : (at ≤ a) × (a < next .at) × (next .at ≤ length s) = taken-good s at e in
+    ap (λ l. l .tokens) (list-taken (length s - at) s at e) ∙ ap (λ l. tokenOf w a next ∷ l .tokens) (enough (length s - at) (suc (length s - next .at)) s (next .at) (omega (arith, f)) (omega (arith, f)) (omega (arith, f)))
 
 tokens-refused : (s : List ℕ) (at : ℕ) {r : Refusal} → stepAt s at ≡ Refused r → tokensAt s at ≡ []
 tokens-refused s at e = ap (λ l. l .tokens) (list-refused (length s - at) s at e)
@@ -70,7 +69,7 @@ module _ (s : List ℕ) (n : ℕ) where
   -- tokens are read, and those so far stand first in the list
   pub record Reading (st : State) (l : List Token) : Type 0 where
     pub room : st .place < n
-    pub read : Read (st .at) (st .place)
+    pub read : Read (st .cursor .at) (st .place)
     pub same : take (st .place) l ≡ take (st .place) all
 
   -- the answer is known, and of what is to stand in the list only zero tokens are missing
@@ -89,7 +88,7 @@ module _ (s : List ℕ) (n : ℕ) where
 
   -- how many turns are left at most
   abbrev pub turns : State → ℕ
-  turns st = pick (st .reading) (suc n) 0 + (n - st .place)
+  turns st = cond (st .reading) (suc n) 0 + (n - st .place)
 
   failed-good : (l : List Token) → eqb (answerOf s n .number) 0 ≡ false → Good (failed s n) l × (turns (failed s n) ≤ n)
   unfolding failed filled
@@ -102,7 +101,7 @@ module _ (s : List ℕ) (n : ℕ) where
     complete-good e a =
         (record { answered = a; within = h; zeros = rw (← a, e) (drop-at all _ p e); same = same ∙ rw (← a) (take-all p all (omega (arith, e)) ∙ sym (take-at all _ p e)) }, omega arith)
 
-    ended-good : {at : ℕ} {f : Refusal} → Read at p → stepAt s at ≡ Refused f → Good (ended s n p (f .number)) l × (turns (ended s n p (f .number)) ≤ n)
+    ended-good : {at : ℕ} {f : Refusal} → Read at p → stepAt s at ≡ Refused f → Good (ended s n p (Refused f)) l × (turns (ended s n p (Refused f)) ≤ n)
     unfolding ended lastOf
     ended-good {at} {f} k e = go (eqb (f .number) 11) refl
       where
@@ -112,22 +111,22 @@ module _ (s : List ℕ) (n : ℕ) where
         count : length all ≡ p
         count = omega (arith, k .counted .so-far, length-drop p all, ap length (k .left ∙ tokens-refused s at e))
 
-        go : (t : Bool) → eqb (f .number) 11 ≡ t → Good (pick t (complete s p) (failed s n)) l × (turns (pick t (complete s p) (failed s n)) ≤ n)
+        go : (t : Bool) → eqb (f .number) 11 ≡ t → Good (cond t (complete s p) (failed s n)) l × (turns (cond t (complete s p) (failed s n)) ≤ n)
         go true i = complete-good count (sym (rw (i, le-leb p n h)) ∙ answer)
         go false i = failed-good l (ap (λ a. eqb (a .number) 0) (sym answer) ∙ rw i (ne-eqb (f .number) 0 (refusal-numbered s at e)))
 
     -- p tokens stand in the list, and the source may go on
-    standing-good : {at : ℕ} → Read at p → Good (standing s n at p) l × (turns (standing s n at p) ≤ suc n + (n - p))
-    unfolding standing full onward
-    standing-good {at} k = go (ltb p n) refl
+    standing-good : {c : Cursor} → Read (c .at) p → Good (standing s n c p) l × (turns (standing s n c p) ≤ suc n + (n - p))
+    unfolding standing ended onward
+    standing-good {c} k = go (ltb p n) refl
       where
-        full-good : (x : Step) → stepAt s at ≡ x → n ≤ p → Good (full s n p x) l × (turns (full s n p x) ≤ n)
-        full-good (Taken t w next) e i = failed-good l (more-fails s n (k .fine) (omega (arith, i, length-drop p all, ap length (k .left ∙ tokens-taken s at (k .counted .inside) e))))
+        full-good : (x : Step) → stepAt s (c .at) ≡ x → n ≤ p → Good (ended s n p x) l × (turns (ended s n p x) ≤ n)
+        full-good (Taken w a next) e i = failed-good l (more-fails s n (k .fine) (omega (arith, i, length-drop p all, ap length (k .left ∙ tokens-taken s (c .at) (k .counted .inside) e))))
         full-good (Refused f) e i = ended-good k e
 
-        go : (t : Bool) → ltb p n ≡ t → Good (pick t (onward at p) (full s n p (stepAt s at))) l × (turns (pick t (onward at p) (full s n p (stepAt s at))) ≤ suc n + (n - p))
+        go : (t : Bool) → ltb p n ≡ t → Good (cond t (onward c p) (ended s n p (stepAt s (c .at)))) l × (turns (cond t (onward c p) (ended s n p (stepAt s (c .at)))) ≤ suc n + (n - p))
         go true i = (record { room = ltb-true p n i; read = k; same = same }, omega arith)
-        go false i = let r = full-good (stepAt s at) refl (ltb-false p n i) in (r .0, omega (arith, r .1))
+        go false i = let r = full-good (stepAt s (c .at)) refl (ltb-false p n i) in (r .0, omega (arith, r .1))
 
   pub begun-good : (l : List Token) → Good (begun s n) l
   unfolding begun begunBy
@@ -142,16 +141,17 @@ module _ (s : List ℕ) (n : ℕ) where
     abbrev pub After : Stored → ℕ → Type 0
     After r most = Good (r .state) (set l (st .place) (r .token)) × (turns (r .state) < most)
 
-    read-good : Reading st l → (x : Step) → stepAt s (st .at) ≡ x → After (readBy s n (st .place) x) (suc n + (n - st .place))
+    read-good : Reading st l → (x : Step) → stepAt s (st .cursor .at) ≡ x → After (readBy s n (st .place) x) (suc n + (n - st .place))
     unfolding readBy
-    read-good g (Taken t w next) e =
-        let k : Counted s (next .at) (st .place + 1) × (st .at < next .at) = one-counted s (g .read .counted) refl e in
-        let left : drop (st .place) all ≡ t ∷ tokensAt s (next .at) = g .read .left ∙ tokens-taken s (st .at) (g .read .counted .inside) e in
-        let r : Good (standing s n (next .at) (st .place + 1)) (set l (st .place) t) × (turns (standing s n (next .at) (st .place + 1)) ≤ suc n + (n - (st .place + 1))) = standing-good (st .place + 1) (omega (arith, room)) (set l (st .place) t)
+    read-good g (Taken w a next) e =
+        let t : Token = tokenOf w a next in
+        let k : Counted s (next .at) (st .place + 1) × (st .cursor .at < next .at) = one-counted s (g .read .counted) refl e in
+        let left : drop (st .place) all ≡ t ∷ tokensAt s (next .at) = g .read .left ∙ tokens-taken s (st .cursor .at) (g .read .counted .inside) e in
+        let r : Good (standing s n next (st .place + 1)) (set l (st .place) t) × (turns (standing s n next (st .place + 1)) ≤ suc n + (n - (st .place + 1))) = standing-good (st .place + 1) (omega (arith, room)) (set l (st .place) t)
         (rw (add-one (st .place)) (stored-more all l (st .place) left (omega (arith, long, room)) (g .same))) (record { fine = g .read .fine; counted = k .0; left = rw (add-one (st .place)) (one-more all (st .place) left .1) }) in
         (r .0, omega (arith, r .1, room))
     read-good g (Refused f) e =
-        let r : Good (ended s n (st .place) (f .number)) (set l (st .place) zeroToken) × (turns (ended s n (st .place) (f .number)) ≤ n) = ended-good (st .place) (omega (arith, room)) (set l (st .place) zeroToken) (take-set-le (st .place) l (st .place) zeroToken (omega arith) ∙ g .same) (g .read) e in
+        let r : Good (ended s n (st .place) (Refused f)) (set l (st .place) zeroToken) × (turns (ended s n (st .place) (Refused f)) ≤ n) = ended-good (st .place) (omega (arith, room)) (set l (st .place) zeroToken) (take-set-le (st .place) l (st .place) zeroToken (omega arith) ∙ g .same) (g .read) e in
         (r .0, omega (arith, r .1))
 
     zero-good : Known st l → After (zeroNext st) (0 + (n - st .place))
@@ -162,8 +162,8 @@ module _ (s : List ℕ) (n : ℕ) where
         let left : drop (st .place) (filled s n) ≡ zeroToken ∷ replicate m zeroToken = g .zeros ∙ ap (λ (k : ℕ). replicate k zeroToken) some in
         (record { answered = g .answered; within = omega (arith, room); zeros = rw (add-one (st .place)) (one-more (filled s n) (st .place) left .1); same = rw (add-one (st .place)) (stored-more (filled s n) l (st .place) left (omega (arith, long, room)) (g .same)) }, omega (arith, room))
 
-    after-by : (b : Bool) → GoodBy b st l → After (pick b (readBy s n (st .place) (stepAt s (st .at))) (zeroNext st)) (pick b (suc n) 0 + (n - st .place))
-    after-by true g = read-good g (stepAt s (st .at)) refl
+    after-by : (b : Bool) → GoodBy b st l → After (cond b (readBy s n (st .place) (stepAt s (st .cursor .at))) (zeroNext st)) (cond b (suc n) 0 + (n - st .place))
+    after-by true g = read-good g (stepAt s (st .cursor .at)) refl
     after-by false g = zero-good g
 
     pub after : Good st l → After (nextOf s n st) (turns st)

@@ -1,42 +1,43 @@
 -- What the writer's scanning functions say.
 use Prim.Native.Nat.{ℕ, _+_}
 use mathlib.Core.List.{List}
-use mathlib.Core.Bool.{true, false}
+use mathlib.Core.Bool.{true, false, cond}
 use lib.Dec.{eqb, ltb}
 use lib.ListN.{length}
-use Rattle.chars.specs.Chars.{pick}
+use Rattle.tokens.specs.declared.Cursor.{Cursor}
 use Rattle.tokens.specs.declared.Step.{Step}
 use Rattle.tokens.specs.declared.Step.the-variants.{Taken, Refused}
 use Rattle.tokens.specs.declared.Whole.{Whole}
 use Rattle.tokens.specs.declared.Whole.the-variants.{Fine, Refused as Bad}
-use Rattle.tokens.specs.Tokens.{stepAt, wholeOf, answerOf}
+use Rattle.tokens.specs.Tokens.{stepAt, wholeOf, tokenOf, answerOf}
 use Rattle.list.specs.declared.State.{State}
 use Rattle.list.specs.declared.Stored.{Stored}
 use Rattle.list.specs.Filled.{zeroToken}
 
+-- where reading begins, and where none is left to do
+abbrev pub beginning : Cursor
+beginning = record { at = 0 }
+
 unfoldable pub failed : List ℕ → ℕ → State
-failed s n = record { reading = false; at = 0; place = 0; answer = answerOf s n }
+failed s n = record { reading = false; cursor = beginning; place = 0; answer = answerOf s n }
 
 -- the source ends behind so many tokens
 unfoldable pub complete : List ℕ → ℕ → State
-complete s p = record { reading = false; at = 0; place = p; answer = record { number = 0; start = 0; end = length s; count = p } }
+complete s p = record { reading = false; cursor = beginning; place = p; answer = record { number = 0; start = 0; end = length s; count = p } }
 
-unfoldable pub ended : List ℕ → ℕ → ℕ → ℕ → State
-ended s n p number = pick (eqb number 11) (complete s p) (failed s n)
+-- no token is stored behind the first p
+unfoldable pub ended : List ℕ → ℕ → ℕ → Step → State
+ended s n p (Taken w a next) = failed s n
+ended s n p (Refused r) = cond (eqb (r .number) 11) (complete s p) (failed s n)
 
-unfoldable pub onward : ℕ → ℕ → State
-onward at p = record { reading = true; at = at; place = p; answer = record { number = 0; start = 0; end = 0; count = 0 } }
+unfoldable pub onward : Cursor → ℕ → State
+onward cursor p = record { reading = true; cursor = cursor; place = p; answer = record { number = 0; start = 0; end = 0; count = 0 } }
 
--- at a full list
-unfoldable pub full : List ℕ → ℕ → ℕ → Step → State
-full s n p (Taken t w next) = failed s n
-full s n p (Refused r) = ended s n p (r .number)
-
-unfoldable pub standing : List ℕ → ℕ → ℕ → ℕ → State
-standing s n at p = pick (ltb p n) (onward at p) (full s n p (stepAt s at))
+unfoldable pub standing : List ℕ → ℕ → Cursor → ℕ → State
+standing s n cursor p = cond (ltb p n) (onward cursor p) (ended s n p (stepAt s (cursor .at)))
 
 unfoldable pub begunBy : List ℕ → ℕ → Whole → State
-begunBy s n Fine = standing s n 0 0
+begunBy s n Fine = standing s n beginning 0
 begunBy s n (Bad r) = failed s n
 
 unfoldable pub begun : List ℕ → ℕ → State
@@ -44,11 +45,11 @@ begun s n = begunBy s n (wholeOf s)
 
 -- what is stored at place p, and where that leaves the writer: while tokens are read, and behind the last
 unfoldable pub readBy : List ℕ → ℕ → ℕ → Step → Stored
-readBy s n p (Taken t w next) = record { token = t; state = standing s n (next .at) (p + 1) }
-readBy s n p (Refused r) = record { token = zeroToken; state = ended s n p (r .number) }
+readBy s n p (Taken w a next) = record { token = tokenOf w a next; state = standing s n next (p + 1) }
+readBy s n p (Refused r) = record { token = zeroToken; state = ended s n p (Refused r) }
 
 unfoldable pub zeroNext : State → Stored
-zeroNext st = record { token = zeroToken; state = record { reading = false; at = 0; place = st .place + 1; answer = st .answer } }
+zeroNext st = record { token = zeroToken; state = record { reading = false; cursor = beginning; place = st .place + 1; answer = st .answer } }
 
 unfoldable pub nextOf : List ℕ → ℕ → State → Stored
-nextOf s n st = pick (st .reading) (readBy s n (st .place) (stepAt s (st .at))) (zeroNext st)
+nextOf s n st = cond (st .reading) (readBy s n (st .place) (stepAt s (st .cursor .at))) (zeroNext st)

@@ -3,19 +3,20 @@
 ghost use mathlib.Core.Path.{_≡_};
 ghost use Prim.Native.Nat.{_<_};
 ghost use lib.ListN.{length};
-ghost use Rattle.tokens.specs.Tokens.{answerOf};
-ghost use Rattle.list.specs.Filled.{filled};
-ghost use Rattle.list.specs.States.{failed, ended, standing, begun, nextOf};
-use tokens::Answer;
+ghost use Rattle.tokens.specs.Tokens.{stepAt, answerOf};
+ghost use Rattle.list.specs.Filled.{zeroToken, filled};
+ghost use Rattle.list.specs.States.{failed, ended, standing, begun, readBy, nextOf};
+use chars::Answer;
+use chars::refusal;
 use tokens::Cursor;
 use tokens::Step;
 use tokens::Token;
 use tokens::Whole;
 
-// Where the writer stands: its place in the list, and whether tokens are read, from `at` on, or zero tokens are left to store.
+// Where the writer stands: its place in the list, and whether tokens are read, from the cursor on, or zero tokens are left to store.
 pub struct State {
     pub reading: bool,
-    pub at: usize,
+    pub cursor: Cursor,
     pub place: usize,
     pub answer: Answer,
 }
@@ -31,65 +32,97 @@ fn refuse(s: &[u8], room: usize) -> State
 {
     State {
         reading: false,
-        at: 0,
+        cursor: Cursor::new(),
         place: 0,
         answer: tokens::count_tokens(s, room),
     }
 }
 
-// No token follows the first `count`: the source ends, or it is refused.
-fn end(s: &[u8], room: usize, count: usize, number: u64) -> State
-    ensures { λ r. ⌜ r ≡ ended (now (s .entry)) room count number ⌝ }
+// No token is stored behind the first `count`: the source ends there, or it is refused, or there is no room.
+fn end(s: &[u8], room: usize, count: usize, step: Step) -> State
+    ensures { λ r. ⌜ r ≡ ended (now (s .entry)) room count step ⌝ }
 {
-    if number == 11 {
-        let answer = Answer {
-            number: 0,
-            start: 0,
-            end: s.len(),
-            count,
-        };
-        State {
-            reading: false,
-            at: 0,
-            place: count,
-            answer,
-        }
-    } else {
-        refuse(s, room)
+    let Step::Refused(r) = step else {
+        return refuse(s, room);
+    };
+    if r.number != 11 {
+        return refuse(s, room);
+    }
+    let answer = Answer {
+        number: refusal::NONE,
+        start: 0,
+        end: s.len(),
+        count,
+    };
+    State {
+        reading: false,
+        cursor: Cursor::new(),
+        place: count,
+        answer,
     }
 }
 
-// So many tokens are stored, and the source is read up to `at`. In a full list no other may follow.
-fn stand(s: &[u8], room: usize, at: usize, place: usize) -> State
-    ensures { λ r. ⌜ r ≡ standing (now (s .entry)) room at place ⌝ }
+// So many tokens are stored, and the source is read up to the cursor. In a full list no other may follow.
+fn stand(s: &[u8], room: usize, cursor: Cursor, place: usize) -> State
+    ensures { λ r. ⌜ r ≡ standing (now (s .entry)) room cursor place ⌝ }
 {
     if place < room {
         let answer = Answer {
-            number: 0,
+            number: refusal::NONE,
             start: 0,
             end: 0,
             count: 0,
         };
         return State {
             reading: true,
-            at,
+            cursor,
             place,
             answer,
         };
     }
-    let cursor = Cursor { at };
-    match cursor.step(s) {
-        Step::Taken(_, _, _) => refuse(s, room),
-        Step::Refused(r) => end(s, room, place, r.number),
-    }
+    let step = cursor.step(s);
+    end(s, room, place, step)
 }
 
 fn begin(s: &[u8], room: usize) -> State
     ensures { λ r. ⌜ r ≡ begun (now (s .entry)) room ⌝ }
 {
     match tokens::check_source(s) {
-        Whole::Fine => stand(s, room, 0, 0),
+        Whole::Fine => stand(s, room, Cursor::new(), 0),
         Whole::Refused(_) => refuse(s, room),
+    }
+}
+
+fn zero() -> Token
+    ensures { λ r. ⌜ r ≡ zeroToken ⌝ }
+{
+    Token {
+        code: 0,
+        start: 0,
+        end: 0,
+    }
+}
+
+// The token at the cursor; behind the last, a zero token.
+fn read(s: &[u8], room: usize, cursor: Cursor, place: usize) -> Stored
+    requires { ⌜ place < room ⌝ }
+    ensures { λ r. ⌜ r ≡ readBy (now (s .entry)) room place (stepAt (now (s .entry)) (cursor .at)) ⌝ }
+{
+    let step = cursor.step(s);
+    let Step::Taken(word, start, after) = step else {
+        return Stored {
+            token: zero(),
+            state: end(s, room, place, step),
+        };
+    };
+    let token = Token {
+        code: tokens::code_of(word),
+        start,
+        end: after.at,
+    };
+    Stored {
+        token,
+        state: stand(s, room, after, place + 1),
     }
 }
 
@@ -98,39 +131,19 @@ fn next(s: &[u8], room: usize, state: State) -> Stored
     requires { ⌜ state .place < room ⌝ }
     ensures { λ r. ⌜ r ≡ nextOf (now (s .entry)) room state ⌝ }
 {
-    let zero = Token {
-        code: 0,
-        start: 0,
-        end: 0,
-    };
-    let following = state.place + 1;
     if state.reading {
-        let cursor = Cursor { at: state.at };
-        match cursor.step(s) {
-            Step::Taken(token, _, after) => {
-                Stored {
-                    token,
-                    state: stand(s, room, after.at, following),
-                }
-            }
-            Step::Refused(r) => {
-                Stored {
-                    token: zero,
-                    state: end(s, room, state.place, r.number),
-                }
-            }
-        }
-    } else {
-        let answer = state.answer;
-        Stored {
-            token: zero,
-            state: State {
-                reading: false,
-                at: 0,
-                place: following,
-                answer,
-            },
-        }
+        let cursor = state.cursor;
+        return read(s, room, cursor, state.place);
+    }
+    let answer = state.answer;
+    Stored {
+        token: zero(),
+        state: State {
+            reading: false,
+            cursor: Cursor::new(),
+            place: state.place + 1,
+            answer,
+        },
     }
 }
 

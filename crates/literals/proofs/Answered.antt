@@ -8,7 +8,7 @@ use lib.ListN.{length}
 use lib.Dec.{eqb, leb, ltb, lit≤}
 use native.Mathlib.Omega.{arith}
 use borrow.Author.Tests.{ltb-true, eqb-true}
-use Rattle.chars.specs.Chars.{pick, byteAt, isDigit}
+use Rattle.chars.specs.Chars.{byteAt, isDigit}
 use Rattle.numbers.proofs.Choices.{and-left}
 use Rattle.values.specs.declared.Literal.{Literal}
 use Rattle.floats.specs.declared.Answer as floats
@@ -73,7 +73,7 @@ module _ (t : List ℕ) where
           never : {w : Width} → Alone.None ≡ Alone.Float w → ⊥
           never h = let z : _≡_ {A = ℕ} 0 1 = cc in omega arith
 
-          of-kind : (k v d : ℕ) → rowOf t ≡ Literal.Is k v d → (b : Bool) → eqb k 11 ≡ b → pick b (Alone.Float (widthOf d)) Alone.None ≡ Alone.Float w → isDigit (byteAt t 0) ≡ true
+          of-kind : (k v d : ℕ) → rowOf t ≡ Literal.Is k v d → (b : Bool) → eqb k 11 ≡ b → cond b (Alone.Float (widthOf d)) Alone.None ≡ Alone.Float w → isDigit (byteAt t 0) ≡ true
           of-kind k v d r true g e = float-starts t (r ∙ ap (λ (x : ℕ). Literal.Is x v d) (eqb-true k 11 g))
           of-kind k v d r false g e = absurd (never e)
 
@@ -81,7 +81,7 @@ module _ (t : List ℕ) where
           of-row (Literal.Is k v d) r e = of-kind k v d r (eqb k 11) refl e
           of-row Literal.None r e = absurd (never e)
 
-          within : (b : Bool) → pick b Alone.None (floatRow (rowOf t)) ≡ Alone.Float w → isDigit (byteAt t 0) ≡ true
+          within : (b : Bool) → cond b Alone.None (floatRow (rowOf t)) ≡ Alone.Float w → isDigit (byteAt t 0) ≡ true
           within true e = absurd (never e)
           within false e = of-row (rowOf t) refl e
 

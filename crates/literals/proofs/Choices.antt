@@ -9,10 +9,10 @@ use native.Mathlib.Nat.{le-of-eq}
 use borrow.Author.Tests.{eq-eqb, ne-eqb, lt-ltb, le-ltb}
 use Rattle.tokens.specs.declared.Step.{Step}
 use Rattle.tokens.specs.declared.Step.the-variants.{Taken, Refused}
-use Rattle.tokens.specs.declared.Token.{Token}
 use Rattle.tokens.specs.declared.Cursor.{Cursor}
 use Rattle.tokens.specs.declared.Refusal.{Refusal}
 use Rattle.tokens.specs.Tokens.{stepAt}
+use Rattle.tokens.specs.Words.{codeOf}
 use Rattle.numbers.proofs.Choices.{not-left, not-right}
 use Rattle.values.specs.declared.Literal.{Literal}
 use Rattle.values.specs.Literals.{literalOf}
@@ -28,18 +28,18 @@ module _ (t : List ℕ) where
   unfolding rowOf rowFor
   no-token h = rw h
 
-  module _ {k : Token} {w : ℕ} {n : Cursor} (h : stepAt t 0 ≡ Taken k w n) where
-    pub starts-later : (k .start ≡ 0 → ⊥) → Literal.None ≡ rowOf t
+  module _ {w a : ℕ} {n : Cursor} (h : stepAt t 0 ≡ Taken w a n) where
+    pub starts-later : (a ≡ 0 → ⊥) → Literal.None ≡ rowOf t
     unfolding rowOf rowFor
-    starts-later f = rw (h, not-left (eqb (k .end) (length t)) (ne-eqb (k .start) 0 f))
+    starts-later f = rw (h, not-left (eqb (n .at) (length t)) (ne-eqb a 0 f))
 
-    pub ends-else : (k .end ≡ length t → ⊥) → Literal.None ≡ rowOf t
+    pub ends-else : (n .at ≡ length t → ⊥) → Literal.None ≡ rowOf t
     unfolding rowOf rowFor
-    ends-else f = rw (h, not-right (eqb (k .start) 0) (ne-eqb (k .end) (length t) f))
+    ends-else f = rw (h, not-right (eqb a 0) (ne-eqb (n .at) (length t) f))
 
-    pub whole-text : {r : Literal} → k .start ≡ 0 → k .end ≡ length t → r ≡ literalOf (k .code) (slice 0 (k .end) t) → r ≡ rowOf t
+    pub whole-text : {r : Literal} {c : ℕ} → a ≡ 0 → n .at ≡ length t → c ≡ codeOf w → r ≡ literalOf c (slice 0 (n .at) t) → r ≡ rowOf t
     unfolding rowOf rowFor
-    whole-text s e g = rw (h, eq-eqb (k .start) 0 s, eq-eqb (k .end) (length t) e) (g ∙ ap (literalOf (k .code)) (take-all (k .end) t (le-of-eq (sym e))))
+    whole-text s e q g = rw (h, eq-eqb a 0 s, eq-eqb (n .at) (length t) e) (g ∙ ap (λ (c : ℕ). literalOf c (slice 0 (n .at) t)) q ∙ ap (literalOf (codeOf w)) (take-all (n .at) t (le-of-eq (sym e))))
 
   pub too-long : 65535 < length t → Alone.None ≡ aloneOf t
   unfolding aloneOf

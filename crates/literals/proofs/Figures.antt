@@ -5,13 +5,13 @@ use Prim.Native.Nat.{ℕ, zero, suc, _+_, _-_, _*_, _^_, _≤_, _<_, suc-le-suc,
 use native.Mathlib.Nat.{le-trans, le-of-eq, lt-of-lt-of-le, add-mul, mul-assoc, mul-right-comm, mul-le-mul-right, pow-suc}
 use native.Mathlib.Omega.{arith}
 use mathlib.Core.List.{List, [], _∷_, _++_, map}
-use mathlib.Core.Bool.{Bool, true, false, _||_}
+use mathlib.Core.Bool.{Bool, true, false, _||_, cond}
 use lib.ListN.{length, take, drop, getD}
 use lib.Seq.{slice, drop-cons}
 use lib.Dec.{leb, ltb, eqb}
 use borrow.Author.Tests.{lt-ltb, le-ltb, le-leb, lt-leb, ltb-true, ne-eqb}
 use Rattle.chars.specs.declared.Class.the-variants.{Figure}
-use Rattle.chars.specs.Chars.{pick, byteAt, isDigit, isClass}
+use Rattle.chars.specs.Chars.{byteAt, isDigit, isClass}
 use Rattle.chars.specs.Runs.{span, pastSpan, pastRun}
 use Rattle.chars.proofs.Runs.{byte-in, within}
 use Rattle.tokens.specs.Rules.{fractionAt}
@@ -99,7 +99,7 @@ module _ (t : List ℕ) where
   unfolding after allBelow
   after-below = go (fractionAt t (pointOf t))
     where
-      go : (b : Bool) → allBelow 10 (pick b (digitsAt t (pointOf t + 1)) []) ≡ true
+      go : (b : Bool) → allBelow 10 (cond b (digitsAt t (pointOf t + 1)) []) ≡ true
       go true = digits-below t (pointOf t + 1)
       go false = refl
 

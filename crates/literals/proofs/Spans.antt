@@ -2,7 +2,7 @@
 use mathlib.Core.Path.{_≡_, refl, sym, ap, _∙_}
 use Prim.Native.Nat.{ℕ, suc, _+_, _-_, _≤_, _<_, suc-le-suc, zero-le}
 use mathlib.Core.List.{List, [], _∷_}
-use mathlib.Core.Bool.{Bool, true, false, _&&_, _||_, not, true≢false}
+use mathlib.Core.Bool.{Bool, true, false, _&&_, _||_, not, true≢false, cond}
 use native.Mathlib.Nat.{le-trans, le-of-eq}
 use native.Mathlib.Decide.{decLt}
 use native.Mathlib.Omega.{arith}
@@ -11,16 +11,15 @@ use lib.Seq.{slice}
 use lib.Dec.{eqb, leb, lit<}
 use borrow.Author.Tests.{eq-eqb, ne-eqb, eqb-true, lt-ltb, lt-leb}
 use Rattle.chars.specs.declared.Class.the-variants.{Digit, Figure, HexDigit, NamePart}
-use Rattle.chars.specs.Chars.{pick, byteAt, isBlank, isDigit, isClass}
+use Rattle.chars.specs.Chars.{byteAt, isBlank, isDigit, isClass}
 use Rattle.chars.specs.Texts.{same}
 use Rattle.chars.specs.Runs.{pastRun}
 use Rattle.chars.proofs.Runs.{byte-in, inside, outside, past-ge, past-gt}
 use Rattle.tokens.specs.declared.Fit.{Fit}
 use Rattle.tokens.specs.declared.Fit.the-variants.{To, No}
 use Rattle.tokens.specs.declared.Step.the-variants.{Taken}
-use Rattle.tokens.specs.declared.Token.{Token}
 use Rattle.tokens.specs.declared.Cursor.{Cursor}
-use Rattle.tokens.specs.Words.{twoSign, oneSign, twoSigns, wordIn}
+use Rattle.tokens.specs.Words.{twoSign, oneSign, twoSigns, wordIn, codeOf}
 use Rattle.tokens.specs.Blanks.{skipAll, skipped}
 use Rattle.tokens.specs.Rules.{whenFit, signFit, thenFit, orElse, taken, pairAt, colonsAt, threeAt, decimalGroup, orTo, ipv6At, periodAt, ipv4At, twoAt, oneAt, asAt, hexAt, fractionAt, numberAt, tokenAt}
 use Rattle.tokens.specs.Tokens.{stepAt}
@@ -56,7 +55,7 @@ not-both false b f = refl
 -- an address's dotted end only lengthens it
 no-colons : (s : List ℕ) (at : ℕ) → ipv6At s at ≡ No → colonsAt s at ≡ No
 unfolding ipv6At thenFit orTo
-no-colons s at = go (colonsAt s at) λ e. pick (decimalGroup s e) (threeAt s e) No
+no-colons s at = go (colonsAt s at) λ e. cond (decimalGroup s e) (threeAt s e) No
   where
     longer : (f : Fit) (end : ℕ) → orTo f end ≡ No → ⊥
     longer (To e w) end h = never h
@@ -91,9 +90,9 @@ unfolding signFit whenFit
 no-sign e h = rw h
 
 form : (t : List ℕ) (fr : Bool) → fractionAt t (pastRun (isClass Figure) t 0) ≡ fr → isDigit (byteAt t 0) ≡ true → {n : ℕ}
-    → pastRun (isClass NamePart) t (pick fr (pastRun (isClass Figure) t (pastRun (isClass Figure) t 0 + 1)) (pastRun (isClass Figure) t 0)) ≡ n → numberAt t 0 ≡ To n (pick fr 8 7)
+    → pastRun (isClass NamePart) t (cond fr (pastRun (isClass Figure) t (pastRun (isClass Figure) t 0 + 1)) (pastRun (isClass Figure) t 0)) ≡ n → numberAt t 0 ≡ To n (cond fr 8 7)
 unfolding numberAt whenFit
-form t fr f d g = rw (d, f) (ap (λ (m : ℕ). To m (pick fr 8 7)) g)
+form t fr f d g = rw (d, f) (ap (λ (m : ℕ). To m (cond fr 8 7)) g)
 
 skip-none : (l : List ℕ) → isDigit (byteAt l 0) ≡ true → skipped false l ≡ 0
 unfolding skipped
@@ -261,7 +260,7 @@ module _ (s : List ℕ) (a e : ℕ) (fits : e ≤ length s) (some : a < e) where
     unfolding numberAt W U
     number-is h = go (fractionAt s W) refl (when-fits (isDigit (byteAt s a)) _ _ h .1)
       where
-        go : (fr : Bool) → fractionAt s W ≡ fr → {w : ℕ} → (pastRun (isClass NamePart) s (pick fr (pastRun (isClass Figure) s (W + 1)) W) ≡ e) × (pick fr 8 7 ≡ w) → numberAt (slice a e s) 0 ≡ To (length (slice a e s)) w
+        go : (fr : Bool) → fractionAt s W ≡ fr → {w : ℕ} → (pastRun (isClass NamePart) s (cond fr (pastRun (isClass Figure) s (W + 1)) W) ≡ e) × (cond fr 8 7 ≡ w) → numberAt (slice a e s) 0 ≡ To (length (slice a e s)) w
         go false f k =
             let w : W ≤ e = le-trans (past-ge (isClass NamePart) s W) (le-of-eq (k .0)) in
             form (slice a e s) false (no-fraction w f) begins (to-end W U (whole w) w (k .0)) ∙ ap (To (length (slice a e s))) (k .1)
@@ -278,48 +277,48 @@ module _ (s : List ℕ) (a e : ℕ) (fits : e ≤ length s) (some : a < e) where
             figure f = unfold fractionAt isClass in rw (and-right (eqb (byteAt s W) 46) (isDigit (byteAt s (W + 1))) f)
 
 -- ---- the token of the part
-module _ (s : List ℕ) {k : Token} {w : ℕ} (fits : k .end ≤ length s) (some : k .start < k .end) (n : Numeric s (k .start) k w) where
+module _ (s : List ℕ) {w a e : ℕ} (fits : e ≤ length s) (some : a < e) (n : Numeric s a e w) where
   text : List ℕ
-  text = slice (k .start) (k .end) s
+  text = slice a e s
 
-  digit : isDigit (byteAt s (k .start)) ≡ true
-  digit = number-starts s (k .start) (n .number)
+  digit : isDigit (byteAt s a) ≡ true
+  digit = number-starts s a (n .number)
 
   token-is : tokenAt text 0 ≡ taken 0 (length text) w
   unfolding tokenAt orElse text
   token-is =
       rw (
-        ipv6-no s (k .start) (k .end) fits some (n .ipv6),
-        ipv4-no s (k .start) (k .end) fits some (n .ipv4),
-        two-no s (k .start) (k .end) fits some (n .two),
-        one-no s (k .start) (k .end) fits some (n .one),
-        as-no s (k .start) (k .end) fits some digit,
-        hex-no s (k .start) (k .end) fits some (n .hex),
-        number-is s (k .start) (k .end) fits some digit (n .number),
+        ipv6-no s a e fits some (n .ipv6),
+        ipv4-no s a e fits some (n .ipv4),
+        two-no s a e fits some (n .two),
+        one-no s a e fits some (n .one),
+        as-no s a e fits some digit,
+        hex-no s a e fits some (n .hex),
+        number-is s a e fits some digit (n .number),
       )
 
   step-is : stepAt text 0 ≡ taken 0 (length text) w
   unfolding stepAt skipAll text
   step-is =
-      let z : skipAll text 0 ≡ 0 = ap (λ (n : ℕ). 0 + n) (skip-none text (begins s (k .start) (k .end) fits some digit)) in
-      rw (z, lt-ltb 0 (length text) (le-trans (omega (arith, some)) (le-of-eq (sym (part-length s (k .start) (k .end) fits))))) token-is
+      let z : skipAll text 0 ≡ 0 = ap (λ (n : ℕ). 0 + n) (skip-none text (begins s a e fits some digit)) in
+      rw (z, lt-ltb 0 (length text) (le-trans (omega (arith, some)) (le-of-eq (sym (part-length s a e fits))))) token-is
 
-  row-is : rowOf text ≡ literalOf (k .code) text
+  row-is : rowOf text ≡ literalOf (codeOf w) text
   unfolding rowOf rowFor taken
-  row-is = rw (step-is, eq-eqb (length text) (length text) refl) (ap (λ (c : ℕ). literalOf c text) (n .code))
+  row-is = rw (step-is, eq-eqb (length text) (length text) refl) refl
 
 -- where the lexer finds a float in a source, its text alone is the same float
-pub row-alone : (s : List ℕ) (at : ℕ) {k : Token} {w : ℕ} {n : Cursor} → stepAt s at ≡ Taken k w n → {v d : ℕ}
-    → literalOf (k .code) (slice (k .start) (k .end) s) ≡ Literal.Is 11 v d → rowOf (slice (k .start) (k .end) s) ≡ Literal.Is 11 v d
+pub row-alone : (s : List ℕ) (at : ℕ) {w a : ℕ} {n : Cursor} → stepAt s at ≡ Taken w a n → {v d : ℕ}
+    → literalOf (codeOf w) (slice a (n .at) s) ≡ Literal.Is 11 v d → rowOf (slice a (n .at) s) ≡ Literal.Is 11 v d
 unfolding text
-row-alone s at {k} {w} {n} h e =
+row-alone s at {w} {a} {n} h e =
     let g = taken-good s at h in
-    row-is s (g .1 .0) (g .0 .1) (numeric-step (row-number (k .code) (slice (k .start) (k .end) s) e) s at h) ∙ e
+    row-is s (g .2) (g .1) (numeric-step (row-number (codeOf w) (slice a (n .at) s) e) s at h) ∙ e
 
 -- so a row of kind 11 has a number, of the width that its detail names, or too many digits
-pub row-has-number : (s : List ℕ) → length s ≤ 65535 → (at : ℕ) {k : Token} {w : ℕ} {n : Cursor} → stepAt s at ≡ Taken k w n → {v d : ℕ}
-    → literalOf (k .code) (slice (k .start) (k .end) s) ≡ Literal.Is 11 v d → Alone.Float (widthOf d) ≡ aloneOf (slice (k .start) (k .end) s)
-row-has-number s few at {k} h e =
+pub row-has-number : (s : List ℕ) → length s ≤ 65535 → (at : ℕ) {w a : ℕ} {n : Cursor} → stepAt s at ≡ Taken w a n → {v d : ℕ}
+    → literalOf (codeOf w) (slice a (n .at) s) ≡ Literal.Is 11 v d → Alone.Float (widthOf d) ≡ aloneOf (slice a (n .at) s)
+row-has-number s few at {w} {a} {n} h e =
     let g = taken-good s at h in
-    let l : length (slice (k .start) (k .end) s) ≡ k .end - k .start = part-length s (k .start) (k .end) (g .1 .0) in
-    a-float (slice (k .start) (k .end) s) (omega (arith, l, g .1 .0, few)) refl (row-alone s at h e) refl refl
+    let l : length (slice a (n .at) s) ≡ n .at - a = part-length s a (n .at) (g .2) in
+    a-float (slice a (n .at) s) (omega (arith, l, g .2, few)) refl (row-alone s at h e) refl refl

@@ -2,16 +2,15 @@
 use mathlib.Core.Path.{_≡_, refl, sym, ap, _∙_, subst}
 use Prim.Native.Nat.{ℕ, _+_}
 use mathlib.Core.List.{List, [], _∷_}
-use mathlib.Core.Bool.{Bool, true, false, _&&_, _||_, not, true≢false}
+use mathlib.Core.Bool.{Bool, true, false, _&&_, _||_, not, true≢false, cond}
 use lib.ListN.{length}
 use lib.Dec.{eqb, ltb}
 use borrow.Author.Tests.{eqb-true}
-use Rattle.chars.specs.Chars.{pick, byteAt, isDigit}
+use Rattle.chars.specs.Chars.{byteAt, isDigit}
 use Rattle.chars.specs.Texts.{same, bytes}
 use Rattle.tokens.specs.declared.Fit.{Fit}
 use Rattle.tokens.specs.declared.Fit.the-variants.{To, No}
 use Rattle.tokens.specs.declared.Step.{Step}
-use Rattle.tokens.specs.declared.Token.{Token}
 use Rattle.tokens.specs.declared.Cursor.{Cursor}
 use Rattle.tokens.specs.declared.Refusal.{Refusal}
 use Rattle.tokens.specs.declared.Step.the-variants.{Taken, Refused}
@@ -19,7 +18,6 @@ use Rattle.tokens.specs.Words.{Entry, wordIn, twoSigns, oneSigns, twoSign, oneS
 use Rattle.tokens.specs.Rules.{whenFit, signFit, thenFit, orElse, taken, refused, pairAt, colonsAt, orTo, ipv6At, periodAt, ipv4At, twoAt, oneAt, asAt, hexAt, numberAt, quoteAt, nameAt, tokenAt}
 use Rattle.tokens.specs.Tokens.{stepAt}
 use Rattle.tokens.specs.Blanks.{skipAll}
-use Rattle.numbers.specs.Digits.{choose}
 use Rattle.numbers.specs.declared.Amount.{Amount}
 use Rattle.numbers.specs.declared.Number.{Number}
 use Rattle.numbers.specs.Numbers.{integerOf, floatOf, hexOf, asOf}
@@ -44,8 +42,7 @@ FloatOf code (Literal.Is kind v d) = kind ≡ 11 → other code ≡ false
 FloatOf code Literal.None = Unit {0}
 
 module _ (code : ℕ) where
-  choice : (b : Bool) (x y : Literal) → (b ≡ true → FloatOf code x) → FloatOf code y → FloatOf code (choose b x y)
-  unfolding choose
+  choice : (b : Bool) (x y : Literal) → (b ≡ true → FloatOf code x) → FloatOf code y → FloatOf code (cond b x y)
   choice true x y h k = h refl
   choice false x y h k = k
 
@@ -111,7 +108,7 @@ unfolding wordIn
 word-in p t d h [] g = h
 word-in p t d h (x ∷ xs) g = go (same t (x .text)) (and-left (p (x .word)) _ g) (word-in p t d h xs (and-right (p (x .word)) _ g))
   where
-    go : (b : Bool) → p (x .word) ≡ true → p (wordIn xs t d) ≡ true → p (pick b (x .word) (wordIn xs t d)) ≡ true
+    go : (b : Bool) → p (x .word) ≡ true → p (wordIn xs t d) ≡ true → p (cond b (x .word) (wordIn xs t d)) ≡ true
     go true f k = f
     go false f k = k
 
@@ -127,7 +124,7 @@ name-other : (t : List ℕ) → other (codeOf (nameWord t)) ≡ true
 unfolding nameWord
 name-other t = go (same t (bytes "_")) (word-in (λ w. other (codeOf w)) t 13 (unfold codeOf in refl) keywords (unfold codeOf keywords wordsOf page in refl))
   where
-    go : (b : Bool) → other (codeOf (wordIn keywords t 13)) ≡ true → other (codeOf (pick b 14 (wordIn keywords t 13))) ≡ true
+    go : (b : Bool) → other (codeOf (wordIn keywords t 13)) ≡ true → other (codeOf (cond b 14 (wordIn keywords t 13))) ≡ true
     go true h = unfold codeOf in refl
     go false h = h
 
@@ -186,19 +183,19 @@ module _ (s : List ℕ) (at : ℕ) where
 
 -- ---- from a number's code back to its rule
 abbrev codeIn : Step → ℕ
-codeIn (Taken t w n) = t .code
+codeIn (Taken w a n) = codeOf w
 codeIn (Refused r) = 0
 
 abbrev startIn : Step → ℕ
-startIn (Taken t w n) = t .start
+startIn (Taken w a n) = a
 startIn (Refused r) = 0
 
 abbrev fitIn : Step → Fit
-fitIn (Taken t w n) = To (t .end) w
+fitIn (Taken w a n) = To (n .at) w
 fitIn (Refused r) = No
 
 abbrev OtherStep : Step → Type 0
-OtherStep (Taken t w n) = other (t .code) ≡ true
+OtherStep (Taken w a n) = other (codeOf w) ≡ true
 OtherStep (Refused r) = Unit {0}
 
 or-other : (at : ℕ) (f : Fit) (d : Step) → OtherFit f → OtherStep d → OtherStep (orElse at f d)
@@ -206,75 +203,70 @@ unfolding orElse taken
 or-other at (To e w) d h k = h
 or-other at No d h k = k
 
-pick-other : (t : Bool) (a b : Step) → OtherStep a → OtherStep b → OtherStep (pick t a b)
+pick-other : (t : Bool) (a b : Step) → OtherStep a → OtherStep b → OtherStep (cond t a b)
 pick-other true a b h k = h
 pick-other false a b h k = k
 
 -- what the rules say where a number's token stands
-pub record Numeric (s : List ℕ) (at : ℕ) (k : Token) (w : ℕ) : Type 0 where
+pub record Numeric (s : List ℕ) (at e w : ℕ) : Type 0 where
   pub ipv6 : ipv6At s at ≡ No
   pub ipv4 : ipv4At s at ≡ No
   pub two : twoAt s at ≡ No
   pub one : oneAt s at ≡ No
   pub hex : hexAt s at ≡ No
-  pub number : numberAt s at ≡ To (k .end) w
-  pub start : at ≡ k .start
-  pub code : codeOf w ≡ k .code
+  pub number : numberAt s at ≡ To e w
 
-module _ {k : Token} {w : ℕ} {n : Cursor} (number : other (k .code) ≡ false) where
-  missed : (at : ℕ) (f : Fit) (d : Step) → OtherFit f → orElse at f d ≡ Taken k w n → (f ≡ No) × (d ≡ Taken k w n)
+module _ {w a : ℕ} {n : Cursor} (number : other (codeOf w) ≡ false) where
+  missed : (at : ℕ) (f : Fit) (d : Step) → OtherFit f → orElse at f d ≡ Taken w a n → (f ≡ No) × (d ≡ Taken w a n)
   unfolding orElse taken
   missed at (To e v) d h g = absurd (true≢false (sym h ∙ ap (λ (x : Step). other (codeIn x)) g ∙ number))
   missed at No d h g = (refl, g)
 
-  was-hit : (at : ℕ) (f : Fit) (d : Step) → OtherStep d → orElse at f d ≡ Taken k w n → (f ≡ To (k .end) w) × ((at ≡ k .start) × (codeOf w ≡ k .code))
+  was-hit : (at : ℕ) (f : Fit) (d : Step) → OtherStep d → orElse at f d ≡ Taken w a n → (f ≡ To (n .at) w) × (at ≡ a)
   unfolding orElse taken
-  was-hit at (To e v) d h g = (ap fitIn g, (ap startIn g, ap codeOf (sym (word g)) ∙ ap codeIn g))
-    where
-      word : {x y : Token} {v w : ℕ} {c d : Cursor} → Taken x v c ≡ Taken y w d → v ≡ w
-      word g = cc
+  was-hit at (To e v) d h g = (ap fitIn g, ap startIn g)
   was-hit at No d h g = absurd (true≢false (sym (subst OtherStep g h) ∙ number))
 
-  pub numeric-token : (s : List ℕ) (at : ℕ) → tokenAt s at ≡ Taken k w n → Numeric s at k w
+  pub numeric-token : (s : List ℕ) (at : ℕ) → tokenAt s at ≡ Taken w a n → Numeric s a (n .at) w
   unfolding tokenAt refused codeOf
   numeric-token s at e =
-      let a = missed at _ _ (ipv6-other s at) e in
-      let b = missed at _ _ (ipv4-other s at) (a .1) in
+      let k = missed at _ _ (ipv6-other s at) e in
+      let b = missed at _ _ (ipv4-other s at) (k .1) in
       let c = missed at _ _ (twos-other s at) (b .1) in
       let d = missed at _ _ (ones-other s at) (c .1) in
       let f = missed at _ _ (as-other s at) (d .1) in
       let g = missed at _ _ (hex-other s at) (f .1) in
       let h = was-hit at _ _ rest (g .1) in
-      record { ipv6 = a .0; ipv4 = b .0; two = c .0; one = d .0; hex = g .0; number = h .0; start = h .1 .0; code = h .1 .1 }
+      subst (λ (x : ℕ). Numeric s x (n .at) w) (h .1) (record { ipv6 = k .0; ipv4 = b .0; two = c .0; one = d .0; hex = g .0; number = h .0 })
     where
-      rest : OtherStep (pick (pairAt s at 102 34) (Refused (record { number = 5; start = at; end = at + 2 })) (orElse at (quoteAt 34 9 s at) (orElse at (quoteAt 39 10 s at) (orElse at (nameAt s at) (Refused (record { number = 4; start = at; end = at + 1 }))))))
+      rest : OtherStep (cond (pairAt s at 102 34) (Refused (record { number = 5; start = at; end = at + 2 })) (orElse at (quoteAt 34 9 s at) (orElse at (quoteAt 39 10 s at) (orElse at (nameAt s at) (Refused (record { number = 4; start = at; end = at + 1 }))))))
       rest =
           pick-other (pairAt s at 102 34) _ _ tt
           (or-other at _ _ (quote-other s at 34 9 refl)
           (or-other at _ _ (quote-other s at 39 10 refl)
           (or-other at _ _ (names-other s at) tt)))
 
-  pub numeric-step : (s : List ℕ) (at : ℕ) → stepAt s at ≡ Taken k w n → Numeric s (k .start) k w
+  pub numeric-step : (s : List ℕ) (at : ℕ) → stepAt s at ≡ Taken w a n → Numeric s a (n .at) w
   unfolding stepAt refused
   numeric-step s at = go (ltb (skipAll s at) (length s))
     where
-      never : {r : Refusal} → Refused r ≡ Taken k w n → ⊥
-      never h = true≢false (ap (λ (x : Step). elim x [ Taken t v m ↦ false | Refused r ↦ true ]) h)
+      never : {r : Refusal} → Refused r ≡ Taken w a n → ⊥
+      never h = true≢false (ap (λ (x : Step). elim x [ Taken v b m ↦ false | Refused r ↦ true ]) h)
 
-      go : (b : Bool) → pick b (tokenAt s (skipAll s at)) (Refused (record { number = 11; start = length s; end = length s })) ≡ Taken k w n → Numeric s (k .start) k w
-      go true e = let x = numeric-token s (skipAll s at) e in subst (λ (a : ℕ). Numeric s a k w) (x .start) x
+      go : (b : Bool) → cond b (tokenAt s (skipAll s at)) (Refused (record { number = 11; start = length s; end = length s })) ≡ Taken w a n → Numeric s a (n .at) w
+      go true e = numeric-token s (skipAll s at) e
       go false e = absurd (never e)
 
 -- ---- the whole text
 pub record Whole (t : List ℕ) (v d : ℕ) : Type 0 where
-  pub token : Token
   pub word : ℕ
+  pub begin : ℕ
   pub next : Cursor
-  pub step : stepAt t 0 ≡ Taken token word next
-  pub start : token .start ≡ 0
-  pub end : token .end ≡ length t
-  pub row : literalOf (token .code) t ≡ Literal.Is 11 v d
-  pub number : other (token .code) ≡ false
+  pub step : stepAt t 0 ≡ Taken word begin next
+  pub start : begin ≡ 0
+  pub end : next .at ≡ length t
+  pub row : literalOf (codeOf word) t ≡ Literal.Is 11 v d
+  pub number : other (codeOf word) ≡ false
 
 pub row-number : (code : ℕ) (t : List ℕ) {v d : ℕ} → literalOf code t ≡ Literal.Is 11 v d → other code ≡ false
 row-number code t e = subst (FloatOf code) e (row-code code t) refl
@@ -289,10 +281,10 @@ float-token t {v} {d} = go (stepAt t 0) refl
 
     go : (r : Step) → stepAt t 0 ≡ r → rowFor t r ≡ Literal.Is 11 v d → Whole t v d
     go (Refused r) s e = absurd (never e)
-    go (Taken k w n) s e = inside (eqb (k .start) 0) (eqb (k .end) (length t)) refl refl e
+    go (Taken w a n) s e = inside (eqb a 0) (eqb (n .at) (length t)) refl refl e
       where
-        inside : (a b : Bool) → eqb (k .start) 0 ≡ a → eqb (k .end) (length t) ≡ b → pick (a && b) (literalOf (k .code) t) Literal.None ≡ Literal.Is 11 v d → Whole t v d
-        inside true true g h e = record { token = k; word = w; next = n; step = s; start = eqb-true (k .start) 0 g; end = eqb-true (k .end) (length t) h; row = e; number = row-number (k .code) t e }
+        inside : (x y : Bool) → eqb a 0 ≡ x → eqb (n .at) (length t) ≡ y → cond (x && y) (literalOf (codeOf w) t) Literal.None ≡ Literal.Is 11 v d → Whole t v d
+        inside true true g h e = record { word = w; begin = a; next = n; step = s; start = eqb-true a 0 g; end = eqb-true (n .at) (length t) h; row = e; number = row-number (codeOf w) t e }
         inside true false g h e = absurd (never e)
         inside false b g h e = absurd (never e)
 
@@ -318,4 +310,4 @@ number-starts s at h = when-fits (isDigit (byteAt s at)) _ _ h .0
 pub float-starts : (t : List ℕ) {v d : ℕ} → rowOf t ≡ Literal.Is 11 v d → isDigit (byteAt t 0) ≡ true
 float-starts t e =
     let x = float-token t e in
-    ap (λ (i : ℕ). isDigit (byteAt t i)) (sym (x .start)) ∙ number-starts t (x .token .start) (numeric-step (x .number) t 0 (x .step) .number)
+    ap (λ (i : ℕ). isDigit (byteAt t i)) (sym (x .start)) ∙ number-starts t (x .begin) (numeric-step (x .number) t 0 (x .step) .number)

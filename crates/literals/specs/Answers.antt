@@ -2,13 +2,14 @@
 use mathlib.Core.Path.{_≡_}
 use Prim.Native.Nat.{ℕ}
 use mathlib.Core.List.{List}
-use mathlib.Core.Bool.{Bool, true, false, _&&_}
+use mathlib.Core.Bool.{Bool, true, false, _&&_, cond}
 use lib.ListN.{length}
 use lib.Dec.{eqb, ltb}
-use Rattle.chars.specs.Chars.{pick}
+use Rattle.rows.specs.Kinds as kinds
 use Rattle.tokens.specs.declared.Step.{Step}
 use Rattle.tokens.specs.declared.Step.the-variants.{Taken, Refused}
 use Rattle.tokens.specs.Tokens.{stepAt}
+use Rattle.tokens.specs.Words.{codeOf}
 use Rattle.values.specs.declared.Literal.{Literal}
 use Rattle.values.specs.Literals.{literalOf}
 use Rattle.floats.specs.declared.Width.{Width}
@@ -19,7 +20,7 @@ use Rattle.literals.specs.Decimals.{numerator, denominator, few}
 
 -- the row of a token that is the whole text
 unfoldable pub rowFor : List ℕ → Step → Literal
-rowFor text (Taken t w next) = pick (eqb (t .start) 0 && eqb (t .end) (length text)) (literalOf (t .code) text) Literal.None
+rowFor text (Taken w a next) = cond (eqb a 0 && eqb (next .at) (length text)) (literalOf (codeOf w) text) Literal.None
 rowFor text (Refused r) = Literal.None
 
 -- "the bytes of one float literal": the lexer's token at their front is all of them
@@ -28,15 +29,15 @@ rowOf text = rowFor text (stepAt text 0)
 
 -- "11 float (detail 0, 9 f32, 10 f64)": "An `f32` suffix gives the 32 bits"
 unfoldable pub widthOf : ℕ → Width
-widthOf detail = pick (eqb detail 9) Width.F32 Width.F64
+widthOf detail = cond (eqb detail 9) Width.F32 Width.F64
 
 unfoldable pub floatRow : Literal → Alone
-floatRow (Literal.Is kind value detail) = pick (eqb kind 11) (Alone.Float (widthOf detail)) Alone.None
+floatRow (Literal.Is kind value detail) = cond (eqb kind kinds.FLOAT) (Alone.Float (widthOf detail)) Alone.None
 floatRow Literal.None = Alone.None
 
 -- one float with a value, of a width; no source is longer than 65,535 bytes, and no literal
 unfoldable pub aloneOf : List ℕ → Alone
-aloneOf text = pick (ltb 65535 (length text)) Alone.None (floatRow (rowOf text))
+aloneOf text = cond (ltb 65535 (length text)) Alone.None (floatRow (rowOf text))
 
 -- how many bits a width has
 abbrev pub sizeOf : Width → ℕ

@@ -1,12 +1,12 @@
 -- The decimal that a float literal writes: "one whole number over a power of ten".
 use Prim.Native.Nat.{ℕ, zero, suc, _+_, _^_}
 use mathlib.Core.List.{List, [], _∷_, _++_, map}
-use mathlib.Core.Bool.{Bool, true, _&&_}
+use mathlib.Core.Bool.{Bool, true, _&&_, cond}
 use lib.ListN.{length}
 use lib.Seq.{slice}
 use lib.Dec.{leb}
 use Rattle.chars.specs.declared.Class.the-variants.{Figure}
-use Rattle.chars.specs.Chars.{pick, isClass}
+use Rattle.chars.specs.Chars.{isClass}
 use Rattle.chars.specs.Runs.{pastRun}
 use Rattle.tokens.specs.Rules.{fractionAt}
 use Rattle.numbers.specs.Digits.{digitOf, plain, valueOf}
@@ -24,7 +24,7 @@ before text = digitsAt text 0
 
 -- "with `.` and a digit next, that fraction too"
 unfoldable pub after : List ℕ → List ℕ
-after text = pick (fractionAt text (pointOf text)) (digitsAt text (pointOf text + 1)) []
+after text = cond (fractionAt text (pointOf text)) (digitsAt text (pointOf text + 1)) []
 
 abbrev pub digits : List ℕ → List ℕ
 digits text = before text ++ after text

@@ -1,8 +1,11 @@
 // What number one float literal is: the bits of the float nearest to the decimal that its bytes write.
 use chars::Class;
+use chars::MOST_BYTES;
+use chars::refusal;
 use floats::Width;
 use numbers::Base;
 use numbers::Number;
+use rows::kind;
 use tokens::Cursor;
 use tokens::Step;
 use values::Literal;
@@ -19,18 +22,8 @@ ghost use Rattle.floats.specs.Nearest.{formatOf};
 ghost use Rattle.literals.specs.Answers.{rowOf, widthOf, sizeOf, aloneOf, refusal, Permitted};
 ghost use Rattle.literals.specs.Steps.{writtenOf};
 
-// The longest source.
-const MOST_BYTES: usize = 65535;
-
-// Of document 01's rows: the kind of a float, and its detail where the suffix is `f32`.
-const FLOAT: u64 = 11;
-
+// The detail of a float's row where the suffix is `f32`.
 const F32: u64 = 9;
-
-// Numbers of refusals: no float with a value, too many digits.
-const WITHOUT_VALUE: u64 = 7;
-
-const TOO_MANY_DIGITS: u64 = 14;
 
 const PERIOD: u16 = 46;
 
@@ -54,12 +47,13 @@ fn row(t: &[u8]) -> Literal
     ensures { λ r. ⌜ r ≡ rowOf (now (t .entry)) ⌝ }
 {
     let cursor = Cursor::new();
-    let Step::Taken(token, _, _) = cursor.step(t) else {
+    let step = cursor.step(t);
+    let Step::Taken(word, start, next) = step else {
         return Literal::None;
     };
-    if token.start == 0 {
-        if token.end == t.len() {
-            return values::literal_at(t, token.code, 0, token.end);
+    if start == 0 {
+        if next.at == t.len() {
+            return values::literal_at(t, tokens::code_of(word), 0, next.at);
         }
     }
     Literal::None
@@ -91,7 +85,7 @@ fn one_float(t: &[u8]) -> Alone
     else {
         return Alone::None;
     };
-    if kind == FLOAT {
+    if kind == kind::FLOAT {
         return Alone::Float(width(detail));
     }
     Alone::None
@@ -170,16 +164,16 @@ pub fn float(t: &[u8]) -> Answer
     ensures { λ r. ⌜ Permitted (now (t .entry)) r ⌝ }
 {
     let Alone::Float(w) = one_float(t) else {
-        return refused(WITHOUT_VALUE, t);
+        return refused(refusal::VALUELESS, t);
     };
     match written(t, w) {
         floats::Answer::Bits(bits) => Answer {
-            number: 0,
+            number: refusal::NONE,
             start: 0,
             end: t.len(),
             width: size(w),
             bits,
         },
-        floats::Answer::Long => refused(TOO_MANY_DIGITS, t),
+        floats::Answer::Long => refused(refusal::TOO_MANY_DIGITS, t),
     }
 }

@@ -1,21 +1,18 @@
 -- How a choice follows from its test.
 use mathlib.Core.Path.{_≡_, refl, sym, ap, _∙_}
-use mathlib.Core.Bool.{Bool, true, false, _&&_, true≢false}
+use mathlib.Core.Bool.{Bool, true, false, _&&_, true≢false, cond}
 use Prim.Native.Nat.{ℕ, _≤_}
 use lib.Dec.{leb}
 use borrow.Author.Tests.{leb-true}
-use Rattle.numbers.specs.Digits.{choose}
 
 -- what a callee answers is what its definition says, and the answer is known
 pub so : {A : Type 0} {r d v : A} → r ≡ d → r ≡ v → d ≡ v
 so e h = sym e ∙ h
 
-pub first : {A : Type 0} {t : Bool} {a x : A} (b : A) → t ≡ true → x ≡ a → x ≡ choose t a b
-unfolding choose
+pub first : {A : Type 0} {t : Bool} {a x : A} (b : A) → t ≡ true → x ≡ a → x ≡ cond t a b
 first b h g = rw h g
 
-pub second : {A : Type 0} {t : Bool} (a : A) {b x : A} → t ≡ false → x ≡ b → x ≡ choose t a b
-unfolding choose
+pub second : {A : Type 0} {t : Bool} (a : A) {b x : A} → t ≡ false → x ≡ b → x ≡ cond t a b
 second a h g = rw h g
 
 -- a test that was made on a value known by an equation

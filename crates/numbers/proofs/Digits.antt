@@ -2,7 +2,7 @@
 use mathlib.Core.Path.{_≡_, refl, sym, ap, _∙_, subst}
 use Prim.Native.Nat.{ℕ, suc, _+_, _-_, _*_, _/_, _<_, _≤_}
 use mathlib.Core.List.{List, [], _∷_, map}
-use mathlib.Core.Bool.{Bool, true, false, _&&_}
+use mathlib.Core.Bool.{Bool, true, false, _&&_, cond}
 use native.Mathlib.Nat.{le-refl, le-trans, add-zero, le-div-iff-mul-le, div-lt-iff-lt-mul, le-mul-of-pos-right, le-add-right, zero-add}
 use native.Mathlib.Numerals.{add-one}
 use native.Mathlib.Omega.{arith}
@@ -15,7 +15,7 @@ use Rattle.chars.proofs.Runs.{byte-in}
 use Rattle.numbers.specs.declared.Base.{Base}
 use Rattle.numbers.specs.declared.Number.{Number}
 use Rattle.numbers.specs.declared.Sum.{Sum}
-use Rattle.numbers.specs.Digits.{choose, radixOf, digitOf, valueFrom, valueOf, allBelow, plain, numberFrom, numberOf, addOf}
+use Rattle.numbers.specs.Digits.{radixOf, digitOf, valueFrom, valueOf, allBelow, plain, numberFrom, numberOf, addOf}
 use Rattle.numbers.proofs.Choices.{first, second, and, not-left, not-right}
 
 module _ (b : ℕ) where
@@ -73,7 +73,7 @@ module _ (r limit v n d : ℕ) (ds : List ℕ) where
   from-more h =
       let e : n + suc (length ds) ≡ n + 1 + length ds = omega arith in
       rw (lt-ltb d r h)
-      (ap (λ k. choose (allBelow r ds && (leb (valueFrom r (v * r + d) ds) limit && ltb 0 k)) (Number.Is (valueFrom r (v * r + d) ds) k) Number.None) e)
+      (ap (λ k. cond (allBelow r ds && (leb (valueFrom r (v * r + d) ds) limit && ltb 0 k)) (Number.Is (valueFrom r (v * r + d) ds) k) Number.None) e)
 
   from-bad : r ≤ d → Number.None ≡ numberFrom r limit v n (d ∷ ds)
   unfolding numberFrom allBelow
@@ -99,10 +99,10 @@ module _ (base : Base) (limit v n d : ℕ) (ds : List ℕ) where
   After Sum.None = Number.None ≡ numberFrom (radixOf base) limit v n (d ∷ ds)
 
   after : After (addOf base limit v d)
-  unfolding addOf choose
+  unfolding addOf
   after = go (ltb d (radixOf base)) (leb (v * radixOf base + d) limit) refl refl
     where
-      go : (t u : Bool) → ltb d (radixOf base) ≡ t → leb (v * radixOf base + d) limit ≡ u → After (choose (t && u) (Sum.Is (v * radixOf base + d)) Sum.None)
+      go : (t u : Bool) → ltb d (radixOf base) ≡ t → leb (v * radixOf base + d) limit ≡ u → After (cond (t && u) (Sum.Is (v * radixOf base + d)) Sum.None)
       go true true e f = (from-more (radixOf base) limit v n d ds (ltb-true _ _ e), leb-true _ _ f)
       go true false e f = from-over (radixOf base) limit v n d ds (radix-pos base) (leb-false _ _ f)
       go false u e f = from-bad (radixOf base) limit v n d ds (ltb-false _ _ e)
@@ -115,7 +115,7 @@ module _ (base : Base) (limit v n d : ℕ) (ds : List ℕ) where
 
 -- where no underscore may stand, none is dropped
 pub plain-whole : (l : List ℕ) → plain false l ≡ l
-unfolding plain choose
+unfolding plain
 plain-whole [] = refl
 plain-whole (b ∷ l) = ap (λ m. b ∷ m) (plain-whole l)
 
@@ -124,7 +124,7 @@ abbrev pub left : Bool → List ℕ → ℕ → List ℕ
 left gaps t i = map digitOf (plain gaps (drop i t))
 
 module _ (gaps : Bool) (t : List ℕ) (i : ℕ) (h : i < length t) {b : ℕ} (e : b ≡ byteAt t i) where
-  one : plain gaps (drop i t) ≡ choose (gaps && eqb b 95) (plain gaps (drop (i + 1) t)) (b ∷ plain gaps (drop (i + 1) t))
+  one : plain gaps (drop i t) ≡ cond (gaps && eqb b 95) (plain gaps (drop (i + 1) t)) (b ∷ plain gaps (drop (i + 1) t))
   unfolding plain
   one = rw (drop-cons t i 0 h, add-one, e, byte-in t i h)
 
@@ -152,7 +152,7 @@ module _ (base : Base) (limit : ℕ) (text : List ℕ) where
   Told Number.None = Unit {0}
 
   told : Told (numberOf base limit text)
-  unfolding numberOf numberFrom choose
+  unfolding numberOf numberFrom
   told = go (allBelow r ds) (leb (valueFrom r 0 ds) limit) (ltb 0 (0 + length ds)) refl refl refl
     where
       r : ℕ
@@ -161,7 +161,7 @@ module _ (base : Base) (limit : ℕ) (text : List ℕ) where
       ds : List ℕ
       ds = map digitOf text
 
-      go : (a b d : Bool) → allBelow r ds ≡ a → leb (valueFrom r 0 ds) limit ≡ b → ltb 0 (0 + length ds) ≡ d → Told (choose (a && (b && d)) (Number.Is (valueFrom r 0 ds) (0 + length ds)) Number.None)
+      go : (a b d : Bool) → allBelow r ds ≡ a → leb (valueFrom r 0 ds) limit ≡ b → ltb 0 (0 + length ds) ≡ d → Told (cond (a && (b && d)) (Number.Is (valueFrom r 0 ds) (0 + length ds)) Number.None)
       go true true true e f g = record { digits = e; value = refl; most = leb-true _ _ f; some = ltb-true 0 (0 + length ds) g; count = zero-add (length ds) ∙ length-map text digitOf }
       go true true false e f g = tt
       go true false d e f g = tt

@@ -2,7 +2,7 @@
 use mathlib.Core.Path.{_≡_, refl, sym, ap, _∙_}
 use Prim.Native.Nat.{ℕ, _+_, _-_, _^_, _<_, _≤_, zero-le}
 use mathlib.Core.List.{List, [], _∷_, map}
-use mathlib.Core.Bool.{Bool, true, false, _&&_, _||_}
+use mathlib.Core.Bool.{Bool, true, false, _&&_, _||_, cond}
 use native.Mathlib.Omega.{arith}
 use lib.ListN.{length, take, drop}
 use lib.Dec.{eqb}
@@ -14,7 +14,7 @@ use Rattle.chars.proofs.Runs.{past-le, within}
 use Rattle.numbers.specs.declared.Base.{Base}
 use Rattle.numbers.specs.declared.Number.{Number}
 use Rattle.numbers.specs.declared.Amount.{Amount}
-use Rattle.numbers.specs.Digits.{choose, numberOf, plain}
+use Rattle.numbers.specs.Digits.{numberOf, plain}
 use Rattle.numbers.specs.Numbers.{suffixOf, greatest, ceilingOf, asInteger, integerWith, integerOf, floatWith, floatOf}
 use Rattle.numbers.proofs.Choices.{first, second, and-right}
 use Rattle.numbers.proofs.Digits.{plain-whole}
@@ -87,8 +87,8 @@ module _ (t : List ℕ) (x y : ℕ) {a b : ℕ} (ha : a ≡ byteAt t 0) (hb : b 
   pub begins-in : y < 256 → (eqb a x && eqb b y) ≡ true → 2 ≤ length t
   begins-in h e = within (λ n. eqb n y) (ne-eqb 256 y (λ g. omega arith)) t 1 (ap (λ n. eqb n y) (sym hb) ∙ and-right (eqb a x) (eqb b y) e)
 
-  pub behind : (f : List ℕ → Number) {r : Number} → (eqb a x && eqb b y) ≡ true → r ≡ f (plain false (take (length t - 2) (drop 2 t))) → r ≡ choose (eqb (byteAt t 0) x && eqb (byteAt t 1) y) (f (drop 2 t)) Number.None
+  pub behind : (f : List ℕ → Number) {r : Number} → (eqb a x && eqb b y) ≡ true → r ≡ f (plain false (take (length t - 2) (drop 2 t))) → r ≡ cond (eqb (byteAt t 0) x && eqb (byteAt t 1) y) (f (drop 2 t)) Number.None
   behind f h g = first _ (begins h) (g ∙ ap f (plain-whole (take (length t - 2) (drop 2 t)) ∙ tail-part t 2))
 
-  pub not-begun : (n : Number) → (eqb a x && eqb b y) ≡ false → Number.None ≡ choose (eqb (byteAt t 0) x && eqb (byteAt t 1) y) n Number.None
+  pub not-begun : (n : Number) → (eqb a x && eqb b y) ≡ false → Number.None ≡ cond (eqb (byteAt t 0) x && eqb (byteAt t 1) y) n Number.None
   not-begun n h = second n (begins h) refl

@@ -2,7 +2,7 @@
 use mathlib.Core.Path.{_≡_, refl, sym, ap, _∙_}
 use Prim.Native.Nat.{ℕ, zero, suc, _+_, _-_, _<_, _≤_, zero-le, suc-le-suc}
 use mathlib.Core.List.{List, [], _∷_}
-use mathlib.Core.Bool.{Bool, true, false, _&&_}
+use mathlib.Core.Bool.{Bool, true, false, _&&_, cond}
 use native.Mathlib.Nat.{le-refl, add-zero, add-suc, suc-add, sub-zero, zero-sub, suc-sub-suc}
 use native.Mathlib.Numerals.{add-one}
 use native.Mathlib.Decide.{decLt}
@@ -14,7 +14,6 @@ use borrow.Author.Tests.{eq-eqb, ne-eqb}
 use Rattle.chars.specs.Chars.{byteAt}
 use Rattle.chars.specs.Texts.{same}
 use Rattle.chars.proofs.Runs.{byte-in, byte-out}
-use Rattle.numbers.specs.Digits.{choose}
 use Rattle.numbers.specs.Texts.{ahead, untilByte}
 use Rattle.numbers.proofs.Choices.{first, second, not-left, not-right}
 
@@ -34,11 +33,11 @@ unfolding ahead
 ahead-more l e = second _ (ne-eqb _ _ e) refl
 
 pub ahead-le : (stop : ℕ) (l : List ℕ) → ahead stop l ≤ length l
-unfolding ahead choose
+unfolding ahead
 ahead-le stop [] = zero-le
 ahead-le stop (b ∷ l) = go (eqb b stop) (ahead-le stop l)
   where
-    go : (t : Bool) → ahead stop l ≤ length l → choose t 0 (suc (ahead stop l)) ≤ suc (length l)
+    go : (t : Bool) → ahead stop l ≤ length l → cond t 0 (suc (ahead stop l)) ≤ suc (length l)
     go true h = zero-le
     go false h = suc-le-suc h
 

@@ -1,7 +1,7 @@
 -- The numbers that digits write, over any base.
 use Prim.Native.Nat.{ℕ, _+_, _-_, _*_}
 use mathlib.Core.List.{List, [], _∷_, map}
-use mathlib.Core.Bool.{Bool, true, false, _&&_}
+use mathlib.Core.Bool.{Bool, true, _&&_, cond}
 use lib.ListN.{length}
 use lib.Dec.{ltb, leb, eqb}
 use Rattle.chars.specs.Chars.{isDigit}
@@ -9,18 +9,13 @@ use Rattle.numbers.specs.declared.Base.{Base}
 use Rattle.numbers.specs.declared.Number.{Number}
 use Rattle.numbers.specs.declared.Sum.{Sum}
 
--- the first where the test holds, else the second
-unfoldable pub choose : {A : Type 0} → Bool → A → A → A
-choose true a b = a
-choose false a b = b
-
 abbrev pub radixOf : Base → ℕ
 radixOf Base.Ten = 10
 radixOf Base.Sixteen = 16
 
 -- what a hex digit says, and 16 for any other byte
 unfoldable pub digitOf : ℕ → ℕ
-digitOf b = choose (isDigit b) (b - 48) (choose (leb 65 b && leb b 70) (b - 55) (choose (leb 97 b && leb b 102) (b - 87) 16))
+digitOf b = cond (isDigit b) (b - 48) (cond (leb 65 b && leb b 70) (b - 55) (cond (leb 97 b && leb b 102) (b - 87) 16))
 
 -- the number that digits over the base r write behind the number v
 unfoldable pub valueFrom : ℕ → ℕ → List ℕ → ℕ
@@ -37,12 +32,12 @@ allBelow r (d ∷ ds) = ltb d r && allBelow r ds
 -- "underscores dropped", where they may stand
 unfoldable pub plain : Bool → List ℕ → List ℕ
 plain gaps [] = []
-plain gaps (b ∷ l) = let rest : List ℕ = plain gaps l in choose (gaps && eqb b 95) rest (b ∷ rest)
+plain gaps (b ∷ l) = let rest : List ℕ = plain gaps l in cond (gaps && eqb b 95) rest (b ∷ rest)
 
 -- n digits that write v, and then the digits ds: all below the base, one or more, at most the limit
 unfoldable pub numberFrom : ℕ → ℕ → ℕ → ℕ → List ℕ → Number
 numberFrom r limit v n ds =
-    choose (allBelow r ds && (leb (valueFrom r v ds) limit && ltb 0 (n + length ds))) (Number.Is (valueFrom r v ds) (n + length ds)) Number.None
+    cond (allBelow r ds && (leb (valueFrom r v ds) limit && ltb 0 (n + length ds))) (Number.Is (valueFrom r v ds) (n + length ds)) Number.None
 
 -- the number that a text of digits writes
 unfoldable pub numberOf : Base → ℕ → List ℕ → Number
@@ -50,4 +45,4 @@ numberOf base limit text = numberFrom (radixOf base) limit 0 0 (map digitOf text
 
 -- one digit more
 unfoldable pub addOf : Base → ℕ → ℕ → ℕ → Sum
-addOf base limit v d = choose (ltb d (radixOf base) && leb (v * radixOf base + d) limit) (Sum.Is (v * radixOf base + d)) Sum.None
+addOf base limit v d = cond (ltb d (radixOf base) && leb (v * radixOf base + d) limit) (Sum.Is (v * radixOf base + d)) Sum.None

@@ -1,7 +1,7 @@
 -- "Literal values" of document 01: integers, floats, hex numbers, AS numbers.
 use Prim.Native.Nat.{ℕ, _+_}
 use mathlib.Core.List.{List, [], _∷_}
-use mathlib.Core.Bool.{true, _&&_, _||_}
+use mathlib.Core.Bool.{true, _&&_, _||_, cond}
 use lib.ListN.{length, take, drop, getD}
 use lib.Dec.{eqb, ltb}
 use Rattle.chars.specs.declared.Class.{Class}
@@ -11,7 +11,7 @@ use Rattle.chars.specs.Texts.{bytes, same}
 use Rattle.numbers.specs.declared.Base.{Base}
 use Rattle.numbers.specs.declared.Number.{Number}
 use Rattle.numbers.specs.declared.Amount.{Amount}
-use Rattle.numbers.specs.Digits.{choose, numberOf, plain}
+use Rattle.numbers.specs.Digits.{numberOf, plain}
 
 -- the suffixes in their order
 abbrev pub suffixes : List (List ℕ)
@@ -52,11 +52,11 @@ ceilingOf suffix = getD (unsuffixed ∷ greatest) suffix 0
 -- the place of a text in a list, counted from k
 unfoldable pub placeIn : ℕ → List ℕ → List (List ℕ) → ℕ
 placeIn k text [] = k
-placeIn k text (u ∷ us) = let rest : ℕ = placeIn (k + 1) text us in choose (same text u) k rest
+placeIn k text (u ∷ us) = let rest : ℕ = placeIn (k + 1) text us in cond (same text u) k rest
 
 -- 0 for none, 1 to 10 in the order of the list, 11 for any other text
 unfoldable pub suffixOf : List ℕ → ℕ
-suffixOf text = choose (eqb (length text) 0) 0 (placeIn 1 text suffixes)
+suffixOf text = cond (eqb (length text) 0) 0 (placeIn 1 text suffixes)
 
 unfoldable pub asInteger : ℕ → Number → Amount
 asInteger suffix (Number.Is v n) = Amount.Integer v suffix
@@ -65,29 +65,29 @@ asInteger suffix Number.None = Amount.None
 -- "underscores dropped", "then the suffix", whose range is tested; "`f32` or `f64` makes a float; any other is refused"
 unfoldable pub integerWith : List ℕ → ℕ → Amount
 integerWith figures suffix =
-    choose (ltb suffix 9) (asInteger suffix (numberOf Base.Ten (ceilingOf suffix) (plain true figures)))
-    (choose (ltb suffix 11) (Amount.Float suffix) Amount.None)
+    cond (ltb suffix 9) (asInteger suffix (numberOf Base.Ten (ceilingOf suffix) (plain true figures)))
+    (cond (ltb suffix 11) (Amount.Float suffix) Amount.None)
 
 -- "a digit, then digits or `_`", and a suffix
 unfoldable pub integerOf : List ℕ → Amount
 integerOf text =
     let e : ℕ = pastRun (isClass Class.Figure) text 0 in
-    choose (isDigit (byteAt text 0)) (integerWith (take e text) (suffixOf (drop e text))) Amount.None
+    cond (isDigit (byteAt text 0)) (integerWith (take e text) (suffixOf (drop e text))) Amount.None
 
 -- "kept as text; suffix `f32`, `f64` or none"
 unfoldable pub floatWith : ℕ → Amount
-floatWith suffix = choose ((eqb suffix 0 || eqb suffix 9) || eqb suffix 10) (Amount.Float suffix) Amount.None
+floatWith suffix = cond ((eqb suffix 0 || eqb suffix 9) || eqb suffix 10) (Amount.Float suffix) Amount.None
 
 -- digits or `_`, `.`, digits or `_`, and a suffix
 unfoldable pub floatOf : List ℕ → Amount
 floatOf text =
     let dot : ℕ = pastRun (isClass Class.Figure) text 0 in
-    choose (eqb (byteAt text dot) 46) (floatWith (suffixOf (drop (pastRun (isClass Class.Figure) text (dot + 1)) text))) Amount.None
+    cond (eqb (byteAt text dot) 46) (floatWith (suffixOf (drop (pastRun (isClass Class.Figure) text (dot + 1)) text))) Amount.None
 
 -- "1 digit or more", behind `0x`
 unfoldable pub hexOf : List ℕ → Number
-hexOf text = choose (eqb (byteAt text 0) 48 && eqb (byteAt text 1) 120) (numberOf Base.Sixteen unsuffixed (drop 2 text)) Number.None
+hexOf text = cond (eqb (byteAt text 0) 48 && eqb (byteAt text 1) 120) (numberOf Base.Sixteen unsuffixed (drop 2 text)) Number.None
 
 -- "the decimal value of its digits, at most 4294967295", behind `AS`
 unfoldable pub asOf : List ℕ → Number
-asOf text = choose (eqb (byteAt text 0) 65 && eqb (byteAt text 1) 83) (numberOf Base.Ten 4294967295 (drop 2 text)) Number.None
+asOf text = cond (eqb (byteAt text 0) 65 && eqb (byteAt text 1) 83) (numberOf Base.Ten 4294967295 (drop 2 text)) Number.None

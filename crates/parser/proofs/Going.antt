@@ -1,7 +1,7 @@
 -- How a reader's steps follow the grammar: one law for each shape of step.
 use mathlib.Core.Path.{_≡_, refl, sym, ap, subst, _∙_}
 use mathlib.Core.List.{List, [], _∷_, _++_}
-use mathlib.Core.Bool.{Bool, true, false, not, _&&_}
+use mathlib.Core.Bool.{Bool, true, false, not, _&&_, cond}
 use mathlib.Core.Option.{none, some}
 use Prim.Native.Nat.{ℕ, _+_, _*_, _≤_, _<_}
 use lib.Dec.{T, eqb}
@@ -10,7 +10,7 @@ use native.Mathlib.Omega.{arith}
 use Rattle.tokens.specs.declared.Refusal.{Refusal}
 use Rattle.rows.specs.declared.Row.{Row}
 use Rattle.rows.specs.Rows.{putRow}
-use Rattle.grammar.specs.Grammar.{Ask, Scope, same, Symbol, token, phrase, unless, note, one-of, ite}
+use Rattle.grammar.specs.Grammar.{Ask, Scope, same, Symbol, token, phrase, unless, note, one-of}
 use Rattle.grammar.specs.Limits.{Counts, after, inside, kept}
 use Rattle.grammar.specs.Table.{rest-kinds, literal-row}
 use Rattle.grammar.specs.Choice.{chosen}
@@ -30,7 +30,7 @@ use Rattle.parser.specs.declared.Here.{Here}
 use Rattle.parser.specs.declared.Node.{Node}
 use Rattle.parser.specs.declared.Read.{Read}
 use Rattle.parser.specs.declared.Read.the-variants.{Done, Refused}
-use Rattle.parser.specs.Places.{passed, unusedAt, refusalAt, later}
+use Rattle.parser.specs.Places.{wordOf, startOf, endOf, nextOf, passed, unusedAt, refusalAt, later}
 use Rattle.parser.specs.Going.{language, tokenOf, Stands, asRow, store, Tally, bare, lone, many, Holds, withToken, withNode, countOf, rowOver, Phrase, Going, Whole, Stopped, Either, Answers}
 use Rattle.parser.proofs.Standing.{solid, solid-word, peeks, next-small, is-token, says, lacking, goes-past, more-rows}
 use Rattle.parser.proofs.Tables.{store-append, store-row, store-length}
@@ -57,7 +57,7 @@ begins f c g e = record {
 }
 
 -- the row count stays far below what a number holds
-pub few-rows : {f : Phrase} {ks : List Left} {h : Here} {t : List ℕ} {y : Tally} {v k : ℕ} → Going f ks h t y v k → (h .rows < 300000) × (h .next ≤ length (f .text) + 1) × (length (f .text) ≤ 65535) × (countOf y < 300000) × (f .from .next ≤ h .next)
+pub few-rows : {f : Phrase} {ks : List Left} {h : Here} {t : List ℕ} {y : Tally} {v k : ℕ} → Going f ks h t y v k → (h .rows < 300000) × (nextOf h ≤ length (f .text) + 1) × (length (f .text) ≤ 65535) × (countOf y < 300000) × (nextOf (f .from) ≤ nextOf h)
 few-rows {f} {h = h} {y = y} g =
     let a = g .stands .few in
     let b = next-small (g .stands) in
@@ -71,13 +71,13 @@ few-rows {f} {h = h} {y = y} g =
 pub record Past (f : Phrase) (ks : List Left) (h h′ : Here) (a : Draft) : Type 0 where
   pub opened : Open (source (f .text)) language (f .counts) same (f .kind) (f .from .place) ks (h′ .place) (with-own (tokenOf (f .text) h) a)
   pub stands : Stands (f .text) h′
-  pub next : h .next < h′ .next
+  pub next : nextOf h < nextOf h′
   pub rows : h′ .rows ≡ h .rows
 
-pub goes-by : (f : Phrase) (h : Here) {d : Counts} {ks : List Left} {h′ : Here} {a : Draft} {ss : List Symbol} {q : Ask} {w : List ℕ} → Open (source (f .text)) language (f .counts) same (f .kind) (f .from .place) (at d (token q w ∷ ss) ∷ ks) (h .place) a → Stands (f .text) h → T (solid w) → T (one-of (h .word) w) → T (kept q d (tokenOf (f .text) h)) → h′ ≡ passed (f .text) h → Past f (at (after q d) ss ∷ ks) h h′ a
+pub goes-by : (f : Phrase) (h : Here) {d : Counts} {ks : List Left} {h′ : Here} {a : Draft} {ss : List Symbol} {q : Ask} {w : List ℕ} → Open (source (f .text)) language (f .counts) same (f .kind) (f .from .place) (at d (token q w ∷ ss) ∷ ks) (h .place) a → Stands (f .text) h → T (solid w) → T (one-of (wordOf h) w) → T (kept q d (tokenOf (f .text) h)) → h′ ≡ passed (f .text) h → Past f (at (after q d) ss ∷ ks) h h′ a
 goes-by f h {d} {ks} {h′} {a} {ss} {q} {w} g st o m p e =
     let s = f .text in
-    let n = solid-word (h .word) w o m in
+    let n = solid-word (wordOf h) w o m in
     let b = is-token st (n .0) (n .1) in
     let z = goes-past st (n .0) (n .1) e in
     record {
@@ -88,7 +88,7 @@ goes-by f h {d} {ks} {h′} {a} {ss} {q} {w} g st o m p e =
     }
 
 module _ {f : Phrase} {d : Counts} {ks : List Left} {h : Here} {t : List ℕ} {y : Tally} {v k : ℕ} where
-  pub takes : {ss : List Symbol} {q : Ask} {w : List ℕ} {h′ : Here} → Going f (at d (token q w ∷ ss) ∷ ks) h t y v k → T (solid w) → T (one-of (h .word) w) → T (kept q d (tokenOf (f .text) h)) → h′ ≡ passed (f .text) h → Going f (at (after q d) ss ∷ ks) h′ t (withToken y h) v (k + 4)
+  pub takes : {ss : List Symbol} {q : Ask} {w : List ℕ} {h′ : Here} → Going f (at d (token q w ∷ ss) ∷ ks) h t y v k → T (solid w) → T (one-of (wordOf h) w) → T (kept q d (tokenOf (f .text) h)) → h′ ≡ passed (f .text) h → Going f (at (after q d) ss ∷ ks) h′ t (withToken y h) v (k + 4)
   takes {ss = ss} {q = q} {w = w} {h′ = h′} g o m p e =
       let x = goes-by f h (g .opened) (g .stands) o m p e in
       let r = x .rows in
@@ -127,10 +127,10 @@ module _ {f : Phrase} {d : Counts} {ks : List Left} {h : Here} {t : List ℕ} {y
   alone g = record { draft = g .draft; opened = apart (source (f .text)) language (g .opened); stands = g .stands; holds = g .holds; part = g .part; rows = g .rows; stored = g .stored; began = g .began; counted = g .counted; spares = g .spares }
 
   -- none of these words stands next
-  pub none-of : {ss : List Symbol} {w : List ℕ} → (T (one-of (h .word) w) → ⊥) → Going f (at d (unless w ∷ ss) ∷ ks) h t y v k → Going f (at d ss ∷ ks) h t y v k
+  pub none-of : {ss : List Symbol} {w : List ℕ} → (T (one-of (wordOf h) w) → ⊥) → Going f (at d (unless w ∷ ss) ∷ ks) h t y v k → Going f (at d ss ∷ ks) h t y v k
   none-of {w = w} n g = record { draft = g .draft; opened = clear (source (f .text)) language (not-one (peek (source (f .text)) language (h .place)) (peeks (g .stands))) (g .opened); stands = g .stands; holds = g .holds; part = g .part; rows = g .rows; stored = g .stored; began = g .began; counted = g .counted; spares = g .spares }
     where
-      not-one : (x : ℕ) → x ≡ h .word → T (not (one-of x w))
+      not-one : (x : ℕ) → x ≡ wordOf h → T (not (one-of x w))
       not-one x e = lib.Dec.not-T (one-of x w) (λ q. n (subst (λ (z : ℕ). T (one-of z w)) e q))
 
   -- "the part is there"
@@ -149,10 +149,10 @@ module _ {f : Phrase} {d : Counts} {ks : List Left} {h : Here} {t : List ℕ} {y
       let i : x ≡ back r = ap (row-of n (a .items)) (g .part) ∙ holds-row n y v (a .items) l (g .holds) ∙ sym (ap back e) in
       let c = few-rows g in
       let rows : h′ .rows ≡ h .rows + 1 = ap (λ (q : Here). q .rows) b ∙ sym (bump-more 300000 (h .rows) (c .0)) in
-      let next : h′ .next ≡ h .next = ap (λ (q : Here). q .next) b in
+      let next : nextOf h′ ≡ nextOf h = ap (λ (q : Here). nextOf q) b in
       let place : h′ .place ≡ h .place = ap (λ (q : Here). q .place) b in
       let len : length (a .rows ++ (x ∷ [])) ≡ length (a .rows) + 1 = length-append (a .rows) (x ∷ []) in
-      let dr : take-note n a ≡ add-row x a = ap (λ (q : Bool). ite q (record { rows = a .rows; items = a .items; part = 1 }) (add-row x a)) z in
+      let dr : take-note n a ≡ add-row x a = ap (λ (q : Bool). cond q (record { rows = a .rows; items = a .items; part = 1 }) (add-row x a)) z in
       let o = notes (source s) language (g .opened) in
       let gr = g .rows in
       let gc = g .counted in
@@ -193,9 +193,9 @@ pub record Added (f : Phrase) (k : ℕ) (h : Here) (t : List ℕ) (y : Tally) (a
   pub rows : z .rows ≡ f .from .rows + length (a .rows ++ b .rows)
   pub stored : t′ ≡ store (f .table) (f .from .rows) (a .rows ++ b .rows)
   pub counted : f .from .rows + countOf (withNode y m) ≤ z .rows
-  pub spares : z .rows + (k + j) + 4 * f .from .next ≤ f .from .rows + 4 * z .next
+  pub spares : z .rows + (k + j) + 4 * nextOf (f .from) ≤ f .from .rows + 4 * nextOf z
 
-pub adds : {f : Phrase} {ks : List Left} {h : Here} {t : List ℕ} {y : Tally} {v k j : ℕ} {b : Draft} {m : Node} {z : Here} {t′ : List ℕ} (g : Going f ks h t y v k) → Leaves m (b .items) → z .rows ≡ h .rows + length (b .rows) → t′ ≡ store t (h .rows) (b .rows) → h .rows + 1 ≤ z .rows → z .rows + j + 4 * h .next ≤ h .rows + 4 * z .next → Added f k h t y (g .draft) b m z t′ j
+pub adds : {f : Phrase} {ks : List Left} {h : Here} {t : List ℕ} {y : Tally} {v k j : ℕ} {b : Draft} {m : Node} {z : Here} {t′ : List ℕ} (g : Going f ks h t y v k) → Leaves m (b .items) → z .rows ≡ h .rows + length (b .rows) → t′ ≡ store t (h .rows) (b .rows) → h .rows + 1 ≤ z .rows → z .rows + j + 4 * nextOf h ≤ h .rows + 4 * nextOf z → Added f k h t y (g .draft) b m z t′ j
 adds {f} {h = h} {y = y} {b = b} {m = m} {z = z} g leaves ur stored uc us =
     let a : Draft = g .draft in
     let len : length (a .rows ++ b .rows) ≡ length (a .rows) + length (b .rows) = length-append (a .rows) (b .rows) in
@@ -247,15 +247,15 @@ module _ {f : Phrase} {d : Counts} {ks : List Left} {h : Here} {t : List ℕ} {y
   pub refuses-in : {ss : List Symbol} {o : Scope} {n : ℕ} {d′ : Counts} {r : Refusal} {t′ : List ℕ} → Going f (at d (phrase o n ∷ ss) ∷ ks) h t y v k → inside o d ≡ d′ → Stopped (next-phrase f d′ n h t) r t′ → Stopped f r t′
   refuses-in g e u = record { place = u .place; why = u .why; stops = fails (source (f .text)) language (stops-with (f .text) e (u .stops)) (g .opened); says = u .says; kept = u .kept ∙ kept-length g }
 
-  pub refuses-word : {ss : List Symbol} {q : Ask} {w : List ℕ} → Going f (at d (token q w ∷ ss) ∷ ks) h t y v k → (T (one-of (h .word) w) → ⊥) → Stopped f (unusedAt h) t
+  pub refuses-word : {ss : List Symbol} {q : Ask} {w : List ℕ} → Going f (at d (token q w ∷ ss) ∷ ks) h t y v k → (T (one-of (wordOf h) w) → ⊥) → Stopped f (unusedAt h) t
   refuses-word {w = w} g n = record { place = h .place; why = want w; stops = wants (source (f .text)) language (lacking (g .stands) w n) (g .opened); says = says (g .stands) (want w) (λ len x. refl, λ len q. refl); kept = kept-length g }
 
   pub refuses-kind : {ss : List Symbol} {o : Scope} {n : ℕ} → Going f (at d (phrase o n ∷ ss) ∷ ks) h t y v k → chosen language n (view (source (f .text)) language (h .place)) ≡ none → Stopped f (unusedAt h) t
   refuses-kind {n = n} g e = record { place = h .place; why = amiss n; stops = lost (source (f .text)) language e (g .opened); says = says (g .stands) (amiss n) (λ len x. refl, λ len q. refl); kept = kept-length g }
 
-  pub refuses-past : {ss : List Symbol} {q : Ask} {w : List ℕ} → Going f (at d (token q w ∷ ss) ∷ ks) h t y v k → T (solid w) → T (one-of (h .word) w) → T (not (kept q d (tokenOf (f .text) h))) → Stopped f (refusalAt (ask-number q) (h .start) (h .end)) t
+  pub refuses-past : {ss : List Symbol} {q : Ask} {w : List ℕ} → Going f (at d (token q w ∷ ss) ∷ ks) h t y v k → T (solid w) → T (one-of (wordOf h) w) → T (not (kept q d (tokenOf (f .text) h))) → Stopped f (refusalAt (ask-number q) (startOf h) (endOf h)) t
   refuses-past {q = q} {w = w} g o m p =
-      let n = solid-word (h .word) w o m in
+      let n = solid-word (wordOf h) w o m in
       let b = is-token (g .stands) (n .0) (n .1) in
       record { place = h .place; why = past q; stops = passes (source (f .text)) language (b .0) m p (g .opened); says = ap (λ (x : Rattle.grammar.specs.Grammar.Look ℕ). said (length (f .text)) x (past q)) (b .0); kept = kept-length g }
 

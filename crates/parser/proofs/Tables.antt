@@ -1,13 +1,13 @@
 -- Stores into the table: one law for them all.
 use mathlib.Core.Path.{_≡_, refl, ap, _∙_}
 use mathlib.Core.List.{List, [], _∷_, _++_}
-use mathlib.Core.Bool.{Bool, true, false}
+use mathlib.Core.Bool.{Bool, true, false, cond}
 use Prim.Native.Nat.{ℕ, _+_, _*_}
 use lib.Dec.{ltb}
 use lib.ListN.{length, set, length-set}
 use native.Mathlib.Omega.{arith}
 use Rattle.rows.specs.declared.Row.{Row}
-use Rattle.rows.specs.Rows.{either, room, written, putRow}
+use Rattle.rows.specs.Rows.{room, written, putRow}
 use Rattle.grammar.specs.Rows as grammar
 use Rattle.parser.specs.Going.{asRow, store}
 
@@ -34,7 +34,7 @@ put-length t n r = go (ltb n (room t))
         ∙ length-set (set t i (r .kind)) (i + 1) (r .start)
         ∙ length-set t i (r .kind)
 
-    go : (b : Bool) → length (either b (written t (n * 6) r) t) ≡ length t
+    go : (b : Bool) → length (cond b (written t (n * 6) r) t) ≡ length t
     go true = six (n * 6)
     go false = refl
 

@@ -12,6 +12,7 @@ use Rattle.grammar.specs.Table.{literal-row}
 use Rattle.grammar.specs.Rows.{Item, own, child, count, children-of, first-row, row-of}
 use Rattle.grammar.specs.Rows as grammar
 use Rattle.grammar.proofs.Summary.{Sum, sum, sum-of, sum-own, sum-child, sum-snoc-own, sum-snoc-child, sum-row, row-sum}
+use Rattle.parser.specs.Places.{wordOf, endOf}
 use Rattle.parser.specs.declared.Here.{Here}
 use Rattle.parser.specs.declared.Node.{Node}
 use Rattle.parser.specs.Going.{tokenOf, Tally, bare, lone, many, Holds, withToken, withNode, rowOver}
@@ -22,7 +23,7 @@ Leaves m xs = Holds (lone (m .kind) (m .start) (m .end)) (children-of xs)
 
 pub holds-token : (s : List ℕ) (h : Here) (y : Tally) (xs : List Item) → Holds y xs → Holds (withToken y h) (xs ++ (own (tokenOf s h) ∷ []))
 holds-token s h bare xs e = ap (λ (z : List Item). sum-of (z ++ (own (tokenOf s h) ∷ []))) e
-holds-token s h (lone k a e) xs (r, q, pk, ps, pe) = ap (λ (z : List Item). sum-of (z ++ (own (tokenOf s h) ∷ []))) q ∙ ap (λ (n : ℕ). sum n (h .end) 1 (some (h .word))) ps
+holds-token s h (lone k a e) xs (r, q, pk, ps, pe) = ap (λ (z : List Item). sum-of (z ++ (own (tokenOf s h) ∷ []))) q ∙ ap (λ (n : ℕ). sum n (endOf h) 1 (some (wordOf h))) ps
 holds-token s h (many a e c w) xs q = sum-snoc-own xs (own-of s h) ∙ ap (λ (z : Sum). sum-own z (own-of s h)) q
   where
     own-of : List ℕ → Here → Token

@@ -9,6 +9,7 @@ use Prim.Native.Nat.{ℕ, _+_, _*_, _≤_}
 use lib.ListN.{length}
 use lib.Seq.{slice}
 use Rattle.tokens.specs.declared.Refusal.{Refusal}
+use Rattle.tokens.specs.Words.{codeOf}
 use Rattle.values.specs.Literals.{literalOf}
 use Rattle.rows.specs.declared.Row.{Row}
 use Rattle.rows.specs.Rows.{putRow}
@@ -26,7 +27,7 @@ use Rattle.parser.specs.declared.Here.{Here}
 use Rattle.parser.specs.declared.Node.{Node}
 use Rattle.parser.specs.declared.Read.{Read}
 use Rattle.parser.specs.declared.Read.the-variants.{Done, Refused}
-use Rattle.parser.specs.Places.{hereAt}
+use Rattle.parser.specs.Places.{wordOf, startOf, endOf, nextOf, hereAt}
 
 -- The grammar that is read: document 01's, in which `test` is a declaration.
 abbrev pub language : Language
@@ -34,7 +35,7 @@ language = roto true
 
 -- The token that a reader stands at, as the grammar knows tokens: its word, its span and what its literal is worth.
 abbrev pub tokenOf : List ℕ → Here → Token
-tokenOf s h = tokenFor (h .word) (h .start) (h .end) (literalOf (h .code) (slice (h .start) (h .end) s))
+tokenOf s h = tokenFor (wordOf h) (startOf h) (endOf h) (literalOf (codeOf (wordOf h)) (slice (startOf h) (endOf h) s))
 
 -- A reader stands in a source that is not too long: what it sees is what the lexer shows at its place, and it has
 -- written at most four rows for each byte up to behind the token there. So no count of rows comes near the greatest
@@ -43,7 +44,7 @@ pub record Stands (s : List ℕ) (h : Here) : Type 0 where
   pub short : length s ≤ 65535
   pub seen : h ≡ hereAt s (h .place) (h .rows)
   pub placed : h .place ≤ length s
-  pub few : h .rows ≤ 4 * h .next
+  pub few : h .rows ≤ 4 * nextOf h
 
 -- A table into which rows were written, from row n on; those for which it has no room are left out.
 abbrev pub asRow : grammar.Row → Row
@@ -72,7 +73,7 @@ withWord (lone k a e) a′ e′ x = many a e′ 1 (some x)
 withWord (many a e c w) a′ e′ x = many a e′ c (or-word w x)
 
 abbrev pub withToken : Tally → Here → Tally
-withToken y h = withWord y (h .start) (h .end) (h .word)
+withToken y h = withWord y (startOf h) (endOf h) (wordOf h)
 
 abbrev pub withNode : Tally → Node → Tally
 withNode bare m = lone (m .kind) (m .start) (m .end)
@@ -111,9 +112,9 @@ pub record Going (f : Phrase) (ks : List Left) (h : Here) (t : List ℕ) (y : Ta
   pub part : draft .part ≡ v
   pub rows : h .rows ≡ f .from .rows + length (draft .rows)
   pub stored : t ≡ store (f .table) (f .from .rows) (draft .rows)
-  pub began : f .from .rows ≤ 4 * f .from .next
+  pub began : f .from .rows ≤ 4 * nextOf (f .from)
   pub counted : f .from .rows + countOf y ≤ h .rows
-  pub spares : h .rows + k + 4 * f .from .next ≤ f .from .rows + 4 * h .next
+  pub spares : h .rows + k + 4 * nextOf (f .from) ≤ f .from .rows + 4 * nextOf h
 
 -- The phrase f was read as the grammar reads it. It left one row, of which the node m tells kind and span; the reader
 -- stands behind it at h; the table t holds its rows; k rows at least that its bytes allow, four each, are not written.
@@ -125,7 +126,7 @@ pub record Whole (f : Phrase) (k : ℕ) (m : Node) (h : Here) (t : List ℕ) : T
   pub rows : h .rows ≡ f .from .rows + length (draft .rows)
   pub stored : t ≡ store (f .table) (f .from .rows) (draft .rows)
   pub counted : f .from .rows + 1 ≤ h .rows
-  pub spares : h .rows + k + 4 * f .from .next ≤ f .from .rows + 4 * h .next
+  pub spares : h .rows + k + 4 * nextOf (f .from) ≤ f .from .rows + 4 * nextOf h
 
 -- The phrase f is refused: a reader that follows the grammar stops at `place` for the reason `why`, and r is what
 -- document 01 says of that, number and span. Rows of it may stand in the table t, whose length is the same as before.

@@ -1,14 +1,16 @@
 -- Where a reader stands, and what it answers there.
+use mathlib.Core.Bool.{cond}
 use mathlib.Core.List.{List}
 use Prim.Native.Nat.{ℕ, _+_}
 use lib.Dec.{eqb, ltb}
 use lib.ListN.{length}
 use lib.Seq.{slice}
-use Rattle.chars.specs.Chars.{pick}
+use Rattle.rows.specs.Kinds as kinds
 use Rattle.tokens.specs.declared.Refusal.{Refusal}
 use Rattle.tokens.specs.declared.Step.{Step}
 use Rattle.tokens.specs.declared.Step.the-variants.{Taken, Refused}
 use Rattle.tokens.specs.Tokens.{stepAt}
+use Rattle.grammar.specs.Words.{the-end, f-quote, text-then-hole, last-text, no-token}
 use Rattle.rows.specs.declared.Row.{Row}
 use Rattle.rows.specs.Rows.{putRow}
 use Rattle.strings.specs.declared.Size.{Size}
@@ -21,52 +23,66 @@ use Rattle.parser.specs.declared.Read.{Read}
 use Rattle.parser.specs.declared.Read.the-variants.{Done}
 use Rattle.parser.specs.declared.Read.the-variants as read
 
--- one more, of what never comes near so many: 300,000 rows, 200 of what the limits count
+-- one more, of what never comes near so many: 300,000 rows
 abbrev pub upTo : ℕ → ℕ → ℕ
-upTo most n = pick (ltb n most) (n + 1) n
+upTo most n = cond (ltb n most) (n + 1) n
 
 abbrev pub bumped : ℕ → ℕ
 bumped n = upTo 300000 n
 
-abbrev pub capped : ℕ → ℕ
-capped n = upTo 200 n
+-- The word of a step: a token's; `f"`, the lexer's refusal 5, is a token (C-11); the end of the source; what is no token.
+unfoldable pub refusedWord : ℕ → ℕ
+refusedWord n = cond (eqb n 11) the-end (cond (eqb n 5) f-quote no-token)
 
--- What a reader sees where the lexer takes this step: a token; the end of the source, word 0; no token, word 99.
-abbrev pub over : ℕ → ℕ → ℕ → Here
-over len place rows = record { word = 0; code = 0; place = place; start = len; end = len; next = len + 1; rows = rows }
+unfoldable pub stepWord : Step → ℕ
+stepWord (Taken w a next) = w
+stepWord (Refused r) = refusedWord (r .number)
 
-abbrev pub wrong : ℕ → ℕ → ℕ → Refusal → Here
-wrong len place rows r = record { word = 99; code = r .number; place = place; start = r .start; end = r .end; next = len + 1; rows = rows }
+unfoldable pub stepStart : Step → ℕ
+stepStart (Taken w a next) = a
+stepStart (Refused r) = r .start
 
--- `f"`, the lexer's refusal 5, is a token (C-11)
-abbrev pub quoted : ℕ → ℕ → Refusal → Here
-quoted place rows r = record { word = 90; code = 0; place = place; start = r .start; end = r .end; next = r .end; rows = rows }
+unfoldable pub stepEnd : Step → ℕ
+stepEnd (Taken w a next) = next .at
+stepEnd (Refused r) = r .end
 
-abbrev pub nowhereOf : ℕ → ℕ → ℕ → Step → Here
-nowhereOf len place rows (Taken t w next) = over len place rows
-nowhereOf len place rows (Refused r) = pick (eqb (r .number) 11) (over len place rows) (pick (eqb (r .number) 5) (quoted place rows r) (wrong len place rows r))
+-- the place behind a step from a place: behind a token, and else one further on
+unfoldable pub stepNext : ℕ → Step → ℕ
+stepNext place (Taken w a next) = next .at
+stepNext place (Refused r) = cond (eqb (r .number) 5) (r .end) (place + 1)
 
-abbrev pub hereOf : List ℕ → ℕ → ℕ → Step → Here
-hereOf s place rows (Taken t w next) = record { word = w; code = t .code; place = place; start = t .start; end = t .end; next = next .at; rows = rows }
-hereOf s place rows (Refused r) = pick (eqb (r .number) 11) (over (length s) place rows) (pick (eqb (r .number) 5) (quoted place rows r) (wrong (length s) place rows r))
+-- What a reader stands at: its word, where it starts and ends, the place behind it.
+abbrev pub wordOf : Here → ℕ
+wordOf h = stepWord (h .step)
 
+abbrev pub startOf : Here → ℕ
+startOf h = stepStart (h .step)
+
+abbrev pub endOf : Here → ℕ
+endOf h = stepEnd (h .step)
+
+abbrev pub nextOf : Here → ℕ
+nextOf h = stepNext (h .place) (h .step)
+
+-- What a reader sees at a place.
 unfoldable pub hereAt : List ℕ → ℕ → ℕ → Here
-hereAt s place rows = hereOf s place rows (stepAt s place)
+hereAt s place rows = record { step = stepAt s place; place = place; rows = rows }
 
 -- behind the token that the reader stands at
 abbrev pub passed : List ℕ → Here → Here
-passed s h = hereAt s (h .next) (h .rows)
+passed s h = hereAt s (nextOf h) (h .rows)
 
 -- with one row more
 abbrev pub later : Here → Here
-later h = record { word = h .word; code = h .code; place = h .place; start = h .start; end = h .end; next = h .next; rows = bumped (h .rows) }
+later h = record { step = h .step; place = h .place; rows = bumped (h .rows) }
 
 -- "6: token not usable here", "11: source ends too early"; where there is no token, the lexer's number
-unfoldable pub unusedAt : Here → Refusal
-unusedAt h =
-    pick (eqb (h .word) 0) (record { number = 11; start = h .start; end = h .end })
-    (pick (eqb (h .word) 99) (record { number = h .code; start = h .start; end = h .end })
-    (record { number = 6; start = h .start; end = h .end }))
+unfoldable pub stepUnused : Step → Refusal
+stepUnused (Taken w a next) = record { number = 6; start = a; end = next .at }
+stepUnused (Refused r) = cond (eqb (r .number) 5) (record { number = 6; start = r .start; end = r .end }) r
+
+abbrev pub unusedAt : Here → Refusal
+unusedAt h = stepUnused (h .step)
 
 -- "9: nested too deep", "7: literal without a value", "8: assignment sign where one could stand, left side no path"
 abbrev pub refusalAt : ℕ → ℕ → ℕ → Refusal
@@ -74,10 +90,10 @@ refusalAt n a e = record { number = n; start = a; end = e }
 
 -- the node of a token, of a list that ends at a token, and of a row
 abbrev pub tokenNode : Here → Node
-tokenNode h = record { kind = 0; start = h .start; end = h .end; children = 0 }
+tokenNode h = record { kind = kinds.NONE; start = startOf h; end = endOf h; children = 0 }
 
 abbrev pub listNode : Here → ℕ → ℕ → Node
-listNode h a c = record { kind = 0; start = a; end = h .end; children = c }
+listNode h a c = record { kind = kinds.NONE; start = a; end = endOf h; children = c }
 
 -- a row without value and detail
 abbrev pub plainRow : ℕ → ℕ → ℕ → ℕ → Row
@@ -86,48 +102,55 @@ plainRow k a e c = record { kind = k; start = a; end = e; children = c; value = 
 abbrev pub nodeOf : Row → Node
 nodeOf r = record { kind = r .kind; start = r .start; end = r .end; children = 0 }
 
--- past a token: any; one of this word; one under a limit; a bracket that opens
+-- past a token: any; one of this word; one under a limit, of which n are left; a bracket that opens
 abbrev pub past : List ℕ → Here → Read
 past s h = Done (tokenNode h) (passed s h)
 
 abbrev pub unused : Here → Read
 unused h = read.Refused (unusedAt h)
 
+unfoldable pub tookBy : Step → Read → Read → Read
+tookBy (Taken w a next) x y = x
+tookBy (Refused r) x y = y
+
+abbrev pub took : List ℕ → Here → Read
+took s h = tookBy (h .step) (past s h) (unused h)
+
 unfoldable pub expected : List ℕ → Here → ℕ → Read
-expected s h w = pick (eqb (h .word) w) (past s h) (unused h)
+expected s h w = cond (eqb (wordOf h) w) (took s h) (unused h)
 
 unfoldable pub under : List ℕ → Here → ℕ → Read
-under s h n = pick (ltb n 32) (past s h) (read.Refused (refusalAt 9 (h .start) (h .end)))
+under s h n = tookBy (h .step) (cond (eqb n 0) (read.Refused (refusalAt 9 (startOf h) (endOf h))) (past s h)) (unused h)
 
 unfoldable pub opening : List ℕ → Here → ℕ → ℕ → Read
-opening s h w n = pick (eqb (h .word) w) (under s h n) (unused h)
+opening s h w n = cond (eqb (wordOf h) w) (under s h n) (unused h)
 
 -- past the bracket that closes a list
 unfoldable pub closing : List ℕ → Here → ℕ → ℕ → ℕ → Read
-closing s h w a c = pick (eqb (h .word) w) (Done (listNode h a c) (passed s h)) (unused h)
+closing s h w a c = cond (eqb (wordOf h) w) (tookBy (h .step) (Done (listNode h a c) (passed s h)) (unused h)) (unused h)
 
--- C-11: past a token and the piece of text behind it, up to e; then place j is looked at. Its node: its word, its span, and 1 if
--- it has a row.
+-- C-11: past the piece of text from a to e, where n rows are written; then place j is looked at. Its node: its word, its span,
+-- and 1 if it has a row.
 abbrev pub partRow : ℕ → ℕ → ℕ → Row
-partRow a e n = record { kind = 47; start = a; end = e; children = 0; value = n; detail = 0 }
+partRow a e n = record { kind = kinds.TEXT; start = a; end = e; children = 0; value = n; detail = 0 }
 
 abbrev pub partNode : ℕ → ℕ → ℕ → ℕ → Node
 partNode w a e n = record { kind = w; start = a; end = e; children = n }
 
-unfoldable pub pieceRead : List ℕ → Here → ℕ → ℕ → ℕ → Size → Read
-pieceRead s h w e j (Size.Is n) = pick (eqb n 0) (Done (partNode w (h .next) e 0) (hereAt s j (h .rows))) (Done (partNode w (h .next) e 1) (hereAt s j (bumped (h .rows))))
-pieceRead s h w e j Size.None = read.Refused (refusalAt 7 (h .next) e)
+unfoldable pub pieceRead : List ℕ → ℕ → ℕ → ℕ → ℕ → ℕ → Size → Read
+pieceRead s n a w e j (Size.Is c) = cond (eqb c 0) (Done (partNode w a e 0) (hereAt s j n)) (Done (partNode w a e 1) (hereAt s j (bumped n)))
+pieceRead s n a w e j Size.None = read.Refused (refusalAt 7 a e)
 
-unfoldable pub pieceTable : List ℕ → Here → ℕ → Size → List ℕ
-pieceTable t h e (Size.Is n) = pick (eqb n 0) t (putRow t (h .rows) (partRow (h .next) e n))
-pieceTable t h e Size.None = t
+unfoldable pub pieceTable : List ℕ → ℕ → ℕ → ℕ → Size → List ℕ
+pieceTable t n a e (Size.Is c) = cond (eqb c 0) t (putRow t n (partRow a e c))
+pieceTable t n a e Size.None = t
 
-unfoldable pub partRead : List ℕ → Here → Part → Read
-partRead s h (Before e) = pieceRead s h 91 e e (textOf (slice (h .next) e s))
-partRead s h (Ends e) = pieceRead s h 92 e (e + 1) (textOf (slice (h .next) e s))
-partRead s h None = read.Refused (refusalAt 11 (length s) (length s))
+unfoldable pub partRead : List ℕ → ℕ → ℕ → Part → Read
+partRead s n a (Before e) = pieceRead s n a text-then-hole e e (textOf (slice a e s))
+partRead s n a (Ends e) = pieceRead s n a last-text e (e + 1) (textOf (slice a e s))
+partRead s n a None = read.Refused (refusalAt 11 (length s) (length s))
 
-unfoldable pub partTable : List ℕ → List ℕ → Here → Part → List ℕ
-partTable s t h (Before e) = pieceTable t h e (textOf (slice (h .next) e s))
-partTable s t h (Ends e) = pieceTable t h e (textOf (slice (h .next) e s))
-partTable s t h None = t
+unfoldable pub partTable : List ℕ → List ℕ → ℕ → ℕ → Part → List ℕ
+partTable s t n a (Before e) = pieceTable t n a e (textOf (slice a e s))
+partTable s t n a (Ends e) = pieceTable t n a e (textOf (slice a e s))
+partTable s t n a None = t

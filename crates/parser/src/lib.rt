@@ -6,39 +6,77 @@ ghost use lib.ListN.{length};
 ghost use lib.Seq.{slice};
 ghost use Rattle.texts.specs.Parts.{partAt};
 ghost use Rattle.texts.specs.Texts.{textOf};
-ghost use Rattle.parser.specs.Places.{bumped, capped, nowhereOf, hereAt, passed, refusalAt, unused, past as pastToken, under, expected, opening, closing, later, nodeOf, plainRow, pieceRead, pieceTable, partRead, partTable};
-ghost use Rattle.parser.specs.Counted.{opened, signed, plain, headed, chained, unchained};
+ghost use Rattle.parser.specs.Places.{bumped, refusedWord, wordOf, endOf, hereAt, refusalAt, unused, took, under, expected, opening, closing, later, nodeOf, plainRow, partRow, pieceRead, pieceTable, partRead, partTable};
+ghost use Rattle.parser.specs.Counted.{lessened, opened, signed, plain, headed, chained, unchained};
 ghost use Rattle.parser.specs.declared.Read.the-variants.{Done, Refused};
+use chars::refusal;
 use rows::Row;
+use rows::kind;
 use strings::Size;
 use texts::Part;
 use tokens::Cursor;
 use tokens::Refusal;
 use tokens::Step;
+use tokens::word;
 
-// Words that the lexer hasn't: `f"`, and a piece of an f-string's text before a hole and before its quote.
-pub const F_QUOTE: u64 = 90;
+// More rows than any source has.
+const MANY_ROWS: usize = 300000;
 
-pub const TEXT_THEN_HOLE: u64 = 91;
-
-pub const LAST_TEXT: u64 = 92;
-
-// The kind of a piece's row.
-const TEXT_PART: u64 = 47;
-
-// Where a reader stands: a place of the source and the token from there on; the place behind it; the rows written so far.
-// The word is 0 at the end of the source, and 99 where no token is: then `code` is the refusal's number.
+// Where a reader stands: the lexer's step from a place on, that place, and the rows written so far.
 pub struct Here {
-    pub word: u64,
-    pub code: u64,
+    pub step: Step,
     pub place: usize,
-    pub start: usize,
-    pub end: usize,
-    pub next: usize,
     pub rows: usize,
 }
 
-// How many brackets, prefixes in a row, `else if` of a chain and heads stand open.
+impl Here {
+    // The word of the token there; where there is none, that of the source's end or of what is no token.
+    pub fn word(self) -> u64
+        ensures { λ r. ⌜ r ≡ wordOf self ⌝ }
+    {
+        let step = self.step;
+        match step {
+            Step::Taken(word, _, _) => word,
+            Step::Refused(why) => word_of_refused(why.number),
+        }
+    }
+
+    // Where the token there ends.
+    fn end(self) -> usize
+        ensures { λ r. ⌜ r ≡ endOf self ⌝ }
+    {
+        let step = self.step;
+        match step {
+            Step::Taken(_, _, next) => next.at,
+            Step::Refused(why) => why.end,
+        }
+    }
+
+    // With one row more.
+    pub fn later(self) -> Here
+        ensures { λ r. ⌜ r ≡ later self ⌝ }
+    {
+        let step = self.step;
+        Here {
+            step,
+            place: self.place,
+            rows: row_more(self.rows),
+        }
+    }
+}
+
+// `f"`, the lexer's refusal 5, is a token here.
+fn word_of_refused(number: u64) -> u64
+    ensures { λ r. ⌜ r ≡ refusedWord number ⌝ }
+{
+    match number {
+        refusal::ENDS_EARLY => word::NONE,
+        refusal::F_STRING => word::F_QUOTE,
+        _ => word::NO_TOKEN,
+    }
+}
+
+// How many brackets, prefixes in a row, `else if` of a chain and heads may still be opened.
 pub struct Limits {
     pub brackets: u8,
     pub signs: u8,
@@ -59,29 +97,50 @@ pub enum Read {
     Refused(Refusal),
 }
 
+// A statement, by how it ended: with its `;`; one of the four without; another expr without, which is the last.
+pub enum Stmt {
+    Ended(Here),
+    Four(Here),
+    Last(Here),
+    Refused(Refusal),
+}
+
+// An arm, by whether another may follow.
+pub enum Arm {
+    Followed(Here),
+    Last(Here),
+    Refused(Refusal),
+}
+
 // The limits.
 
-fn one_more(n: u8) -> u8
-    ensures { λ r. ⌜ r ≡ capped n ⌝ }
+const LIMIT: u8 = 32;
+
+// One less of what is left; more than the limit can't be.
+fn one_less(n: u8) -> u8
+    ensures { λ r. ⌜ r ≡ lessened n ⌝ }
 {
-    if n < 200 { n + 1 } else { n }
+    if LIMIT < n {
+        return LIMIT - 1;
+    }
+    if 0 < n { n - 1 } else { 0 }
 }
 
 fn row_more(n: usize) -> usize
     ensures { λ r. ⌜ r ≡ bumped n ⌝ }
 {
-    if n < 300000 { n + 1 } else { n }
+    if n < MANY_ROWS { n + 1 } else { n }
 }
 
 impl Limits {
-    pub fn none() -> Limits
-        ensures { λ r. ⌜ r ≡ record { brackets = 0; signs = 0; chain = 0; heads = 0 } ⌝ }
+    pub fn all() -> Limits
+        ensures { λ r. ⌜ r ≡ record { brackets = 32; signs = 32; chain = 32; heads = 32 } ⌝ }
     {
         Limits {
-            brackets: 0,
-            signs: 0,
-            chain: 0,
-            heads: 0,
+            brackets: LIMIT,
+            signs: LIMIT,
+            chain: LIMIT,
+            heads: LIMIT,
         }
     }
 
@@ -90,8 +149,8 @@ impl Limits {
         ensures { λ r. ⌜ r ≡ opened self ⌝ }
     {
         Limits {
-            brackets: one_more(self.brackets),
-            signs: 0,
+            brackets: one_less(self.brackets),
+            signs: LIMIT,
             chain: self.chain,
             heads: self.heads,
         }
@@ -103,7 +162,7 @@ impl Limits {
     {
         Limits {
             brackets: self.brackets,
-            signs: one_more(self.signs),
+            signs: one_less(self.signs),
             chain: self.chain,
             heads: self.heads,
         }
@@ -115,7 +174,7 @@ impl Limits {
     {
         Limits {
             brackets: self.brackets,
-            signs: 0,
+            signs: LIMIT,
             chain: self.chain,
             heads: self.heads,
         }
@@ -127,9 +186,9 @@ impl Limits {
     {
         Limits {
             brackets: self.brackets,
-            signs: 0,
+            signs: LIMIT,
             chain: self.chain,
-            heads: one_more(self.heads),
+            heads: one_less(self.heads),
         }
     }
 
@@ -139,8 +198,8 @@ impl Limits {
     {
         Limits {
             brackets: self.brackets,
-            signs: 0,
-            chain: one_more(self.chain),
+            signs: LIMIT,
+            chain: one_less(self.chain),
             heads: self.heads,
         }
     }
@@ -151,8 +210,8 @@ impl Limits {
     {
         Limits {
             brackets: self.brackets,
-            signs: 0,
-            chain: 0,
+            signs: LIMIT,
+            chain: LIMIT,
             heads: self.heads,
         }
     }
@@ -161,70 +220,15 @@ impl Limits {
 // Tokens.
 
 // What a reader sees at a place.
-pub fn look(s: &[u8], place: usize, rows: usize) -> Here
-    ensures { λ r. ⌜ r ≡ hereAt (now (s .entry)) place rows ⌝ }
+pub fn look(s: &[u8], cursor: Cursor, rows: usize) -> Here
+    ensures { λ r. ⌜ r ≡ hereAt (now (s .entry)) (cursor .at) rows ⌝ }
 {
-    let cursor = Cursor { at: place };
     let step = cursor.step(s);
-    let Step::Taken(token, word, next) = step else {
-        return nowhere(step, s.len(), place, rows);
-    };
     Here {
-        word,
-        code: token.code,
-        place,
-        start: token.start,
-        end: token.end,
-        next: next.at,
+        step,
+        place: cursor.at,
         rows,
     }
-}
-
-// Where no token is: the source's end, or what the lexer refuses.
-fn nowhere(step: Step, length: usize, place: usize, rows: usize) -> Here
-    requires { ⌜ length ≤ 9223372036854775807 ⌝ }
-    ensures { λ r. ⌜ r ≡ nowhereOf length place rows step ⌝ }
-{
-    if let Step::Refused(r) = step {
-        if r.number == 5 {
-            return Here {
-                word: F_QUOTE,
-                code: 0,
-                place,
-                start: r.start,
-                end: r.end,
-                next: r.end,
-                rows,
-            };
-        }
-        if r.number != 11 {
-            return Here {
-                word: 99,
-                code: r.number,
-                place,
-                start: r.start,
-                end: r.end,
-                next: length + 1,
-                rows,
-            };
-        }
-    }
-    Here {
-        word: 0,
-        code: 0,
-        place,
-        start: length,
-        end: length,
-        next: length + 1,
-        rows,
-    }
-}
-
-// Goes past a token.
-pub fn take(s: &[u8], here: Here) -> Here
-    ensures { λ r. ⌜ r ≡ passed (now (s .entry)) here ⌝ }
-{
-    look(s, here.next, here.rows)
 }
 
 pub fn refuse(number: u64, start: usize, end: usize) -> Read
@@ -233,30 +237,38 @@ pub fn refuse(number: u64, start: usize, end: usize) -> Read
     Read::Refused(Refusal { number, start, end })
 }
 
-// 6 at a token; 11 at the end of the source; where there is no token, the lexer's number.
+// 6 at a token; where there is none, what the lexer refuses: 11 at the end of the source.
 pub fn unusable(here: Here) -> Read
     ensures { λ r. ⌜ r ≡ unused here ⌝ }
 {
-    if here.word == 0 {
-        return refuse(11, here.start, here.end);
+    let step = here.step;
+    match step {
+        Step::Taken(_, start, next) => refuse(refusal::UNUSABLE, start, next.at),
+        Step::Refused(why) => {
+            if why.number == refusal::F_STRING {
+                return refuse(refusal::UNUSABLE, why.start, why.end);
+            }
+            Read::Refused(why)
+        }
     }
-    if here.word == 99 {
-        return refuse(here.code, here.start, here.end);
-    }
-    refuse(6, here.start, here.end)
 }
 
-fn past(s: &[u8], here: Here) -> Read
-    ensures { λ r. ⌜ r ≡ pastToken (now (s .entry)) here ⌝ }
+// Goes past a token.
+pub fn take(s: &[u8], here: Here) -> Read
+    ensures { λ r. ⌜ r ≡ took (now (s .entry)) here ⌝ }
 {
+    let step = here.step;
+    let Step::Taken(_, start, next) = step else {
+        return unusable(here);
+    };
     Read::Done(
         Node {
-            kind: 0,
-            start: here.start,
-            end: here.end,
+            kind: kind::NONE,
+            start,
+            end: next.at,
             children: 0,
         },
-        take(s, here),
+        look(s, next, here.rows),
     )
 }
 
@@ -264,27 +276,31 @@ fn past(s: &[u8], here: Here) -> Read
 pub fn expect(s: &[u8], here: Here, word: u64) -> Read
     ensures { λ r. ⌜ r ≡ expected (now (s .entry)) here word ⌝ }
 {
-    if here.word != word {
+    if here.word() != word {
         return unusable(here);
     }
-    past(s, here)
+    take(s, here)
 }
 
-// Goes past a token under a limit, of which so many stand open.
-pub fn deeper(s: &[u8], here: Here, count: u8) -> Read
-    ensures { λ r. ⌜ r ≡ under (now (s .entry)) here count ⌝ }
+// Goes past a token under a limit, of which so many are left.
+pub fn deeper(s: &[u8], here: Here, left: u8) -> Read
+    ensures { λ r. ⌜ r ≡ under (now (s .entry)) here left ⌝ }
 {
-    if 32 <= count {
-        return refuse(9, here.start, here.end);
+    let step = here.step;
+    let Step::Taken(_, start, next) = step else {
+        return unusable(here);
+    };
+    if left == 0 {
+        return refuse(refusal::TOO_DEEP, start, next.at);
     }
-    past(s, here)
+    take(s, here)
 }
 
 // Goes past a bracket that opens.
 pub fn open(s: &[u8], here: Here, bracket: u64, limits: Limits) -> Read
     ensures { λ r. ⌜ r ≡ opening (now (s .entry)) here bracket (limits .brackets) ⌝ }
 {
-    if here.word != bracket {
+    if here.word() != bracket {
         return unusable(here);
     }
     deeper(s, here, limits.brackets)
@@ -294,17 +310,21 @@ pub fn open(s: &[u8], here: Here, bracket: u64, limits: Limits) -> Read
 pub fn close(s: &[u8], here: Here, word: u64, start: usize, children: u64) -> Read
     ensures { λ r. ⌜ r ≡ closing (now (s .entry)) here word start children ⌝ }
 {
-    if here.word != word {
+    if here.word() != word {
         return unusable(here);
     }
+    let step = here.step;
+    let Step::Taken(_, _, next) = step else {
+        return unusable(here);
+    };
     Read::Done(
         Node {
-            kind: 0,
+            kind: kind::NONE,
             start,
-            end: here.end,
+            end: next.at,
             children,
         },
-        take(s, here),
+        look(s, next, here.rows),
     )
 }
 
@@ -334,27 +354,41 @@ pub fn finish(table: &mut [u64], row: Row, here: Here) -> Read
             end: row.end,
             children: 0,
         },
-        Here {
-            word: here.word,
-            code: here.code,
-            place: here.place,
-            start: here.start,
-            end: here.end,
-            next: here.next,
-            rows: row_more(here.rows),
-        },
+        here.later(),
     )
 }
 
-// The piece of text behind a token up to `end`: its row if it has a byte, and what stands at `next`.
-fn text_row(s: &[u8], table: &mut [u64], here: Here, end: usize, next: usize, word: u64) -> Read
-    requires { ⌜ (here .next ≤ end) × (end ≤ length (now s)) ⌝ }
-    ensures { λ r. ⌜ (r ≡ pieceRead (now (s .entry)) here word end next (textOf (slice (here .next) end (now (s .entry))))) × (now (table .exit) ≡ pieceTable (now (table .entry)) here end (textOf (slice (here .next) end (now (s .entry))))) ⌝ }
+// The row of a piece of text, whose value is its number of bytes in the end.
+fn part_row(start: usize, end: usize, count: usize) -> Row
+    ensures { λ r. ⌜ r ≡ partRow start end count ⌝ }
 {
-    let start = here.next;
+    Row {
+        kind: kind::TEXT,
+        start,
+        end,
+        children: 0,
+        value: count as u64,
+        detail: 0,
+    }
+}
+
+// The piece of text from a place to `end`: its row if it has a byte, and what stands at `next`.
+fn text_row(
+    s: &[u8],
+    table: &mut [u64],
+    rows: usize,
+    start: usize,
+    end: usize,
+    next: usize,
+    word: u64,
+) -> Read
+    requires { ⌜ (start ≤ end) × (end ≤ length (now s)) ⌝ }
+    ensures { λ r. ⌜ (r ≡ pieceRead (now (s .entry)) rows start word end next (textOf (slice start end (now (s .entry))))) × (now (table .exit) ≡ pieceTable (now (table .entry)) rows start end (textOf (slice start end (now (s .entry))))) ⌝ }
+{
     let Size::Is(count) = texts::text(&s[start..end]) else {
-        return refuse(7, start, end);
+        return refuse(refusal::VALUELESS, start, end);
     };
+    let cursor = Cursor { at: next };
     if count == 0 {
         return Read::Done(
             Node {
@@ -363,18 +397,10 @@ fn text_row(s: &[u8], table: &mut [u64], here: Here, end: usize, next: usize, wo
                 end,
                 children: 0,
             },
-            look(s, next, here.rows),
+            look(s, cursor, rows),
         );
     }
-    let part = Row {
-        kind: TEXT_PART,
-        start,
-        end,
-        children: 0,
-        value: count as u64,
-        detail: 0,
-    };
-    rows::put(table, here.rows, part);
+    rows::put(table, rows, part_row(start, end, count));
     Read::Done(
         Node {
             kind: word,
@@ -382,18 +408,19 @@ fn text_row(s: &[u8], table: &mut [u64], here: Here, end: usize, next: usize, wo
             end,
             children: 1,
         },
-        look(s, next, row_more(here.rows)),
+        look(s, cursor, row_more(rows)),
     )
 }
 
 // Goes past a token and the piece of text behind it, before a hole or before the quote.
 pub fn piece(s: &[u8], table: &mut [u64], here: Here) -> Read
-    ensures { λ r. ⌜ (r ≡ partRead (now (s .entry)) here (partAt (now (s .entry)) (here .next))) × (now (table .exit) ≡ partTable (now (s .entry)) (now (table .entry)) here (partAt (now (s .entry)) (here .next))) ⌝ }
+    ensures { λ r. ⌜ (r ≡ partRead (now (s .entry)) (here .rows) (endOf here) (partAt (now (s .entry)) (endOf here))) × (now (table .exit) ≡ partTable (now (s .entry)) (now (table .entry)) (here .rows) (endOf here) (partAt (now (s .entry)) (endOf here))) ⌝ }
 {
-    let part = texts::f_string_part(s, here.next);
+    let start = here.end();
+    let part = texts::f_string_part(s, start);
     match part {
-        Part::Before(end) => text_row(s, table, here, end, end, TEXT_THEN_HOLE),
-        Part::Ends(end) => text_row(s, table, here, end, end + 1, LAST_TEXT),
-        Part::None => refuse(11, s.len(), s.len()),
+        Part::Before(end) => text_row(s, table, here.rows, start, end, end, word::TEXT_THEN_HOLE),
+        Part::Ends(end) => text_row(s, table, here.rows, start, end, end + 1, word::LAST_TEXT),
+        Part::None => refuse(refusal::ENDS_EARLY, s.len(), s.len()),
     }
 }

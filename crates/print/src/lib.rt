@@ -1,8 +1,9 @@
 // Answers as lines of text on standard output, in document 01's form.
 ghost use Prim.Native.Nat.{_+_, _≤_};
 ghost use lib.ListN.{length};
+use chars::Answer;
+use chars::refusal;
 use libc::STDOUT_FILENO;
-use tokens::Answer;
 use tokens::Cursor;
 use tokens::Step;
 
@@ -20,12 +21,12 @@ fn refused(n: u64, start: usize, end: usize) {
 
 // `accepted COUNT`, or `refused NUMBER START END`, and for 10 the count needed.
 fn head(a: Answer) {
-    if a.number == 0 {
+    if a.number == refusal::NONE {
         io::write_all(STDOUT_FILENO, b"accepted");
     } else {
         refused(a.number, a.start, a.end);
     }
-    if (a.number == 0) | (a.number == 10) {
+    if (a.number == refusal::NONE) | (a.number == refusal::NO_ROOM) {
         number(a.count as u64);
     }
     io::write_all(STDOUT_FILENO, b"\n");
@@ -37,12 +38,12 @@ fn token_lines(s: &[u8], count: usize) {
     let mut i = 0;
     while i < count {
         let step = cursor.step(s);
-        let Step::Taken(token, _, next) = step else {
+        let Step::Taken(word, start, next) = step else {
             return;
         };
-        io::print_decimal(STDOUT_FILENO, token.code);
-        number(token.start as u64);
-        number(token.end as u64);
+        io::print_decimal(STDOUT_FILENO, tokens::code_of(word));
+        number(start as u64);
+        number(next.at as u64);
         io::write_all(STDOUT_FILENO, b"\n");
         cursor = next;
         i += 1;
@@ -53,7 +54,7 @@ fn token_lines(s: &[u8], count: usize) {
 pub fn answer_tokens(s: &[u8], room: usize) {
     let a = tokens::count_tokens(s, room);
     head(a);
-    if a.number == 0 {
+    if a.number == refusal::NONE {
         token_lines(s, a.count);
     }
 }
@@ -75,13 +76,8 @@ fn wide(b: u8) -> u64 {
 fn decoded(s: &[u8], out: &mut [u8]) {
     let a = strings::decode(s, out);
     let count = a.count;
-    head(Answer {
-        number: a.number,
-        start: a.start,
-        end: a.end,
-        count,
-    });
-    if (a.number == 0) & (0 < count) {
+    head(a);
+    if (a.number == refusal::NONE) & (0 < count) {
         if count <= out.len() {
             hex_line(&out[..count]);
         }
@@ -128,7 +124,7 @@ fn row_lines(table: &[u64], count: usize) {
 
 fn answer_rows(a: Answer, table: &[u64]) {
     head(a);
-    if a.number == 0 {
+    if a.number == refusal::NONE {
         row_lines(table, a.count);
     }
 }
@@ -148,7 +144,7 @@ pub fn answer_expression(s: &[u8], table: &mut [u64]) {
 // The number of a float literal: `accepted WIDTH BITS`, or the refusal.
 pub fn answer_float(t: &[u8]) {
     let a = literals::float(t);
-    if a.number == 0 {
+    if a.number == refusal::NONE {
         io::write_all(STDOUT_FILENO, b"accepted");
         number(a.width);
         number(a.bits);

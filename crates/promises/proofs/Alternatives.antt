@@ -7,6 +7,7 @@ use mathlib.Core.Option.{none, some}
 use mathlib.Core.Logic.{_⊎_, inl, inr, _≢_}
 use Prim.Native.Nat.{ℕ}
 use lib.Dec.{T, eqb, eqb→eq}
+use Rattle.rows.specs.Kinds as kinds
 use Rattle.grammar.specs.Words.{name, underscore, f-quote, '=>', '&&', '||', '->', open-brace, close-brace, open-paren, close-paren, open-bracket, close-bracket, ':', semicolon, comma, dot, '=', '?', '!', '-', 'const', 'else', 'for', 'fn', 'if', 'import', 'in', 'let', 'match', 'pkg', 'dep', 'super', 'std', 'test', 'while', names, path-items, literals, assign-signs, compare-signs, sum-signs, product-signs, return-words, filter-words, four-words}
 use Rattle.grammar.specs.Grammar.{is-else-if, Symbol, token, unless, left-side, found, one as one-seen, pair, one-of}
 use Rattle.grammar.specs.Table.{word, one, opens, closes, prefix, head, literal, a, behind, nothing, row, literal-row, part, rest-kinds}
@@ -19,7 +20,7 @@ use Rattle.grammar.proofs.Bools.{and-l, and-r, or-l, or-r, or-cases}
 use Rattle.grammar.proofs.Picked.{picks-on, picks-off, picks-by, one-place, pair-place}
 use Rattle.answers.specs.Source.{source}
 use Rattle.parser.specs.declared.Here.{Here}
-use Rattle.parser.specs.Places.{passed}
+use Rattle.parser.specs.Places.{wordOf, nextOf, passed}
 use Rattle.parser.specs.Going.{language, tokenOf, Stands}
 use Rattle.parser.proofs.Standing.{peeks, is-token, goes-past, solid-word, the-word}
 use Rattle.parser.proofs.Picks.{On, Off}
@@ -206,21 +207,21 @@ declarations-off = record { computed = tt }
 
 -- DECLARATION
 abbrev pub declaration-const : List Symbol
-declaration-const = word 'const' ∷ a NAME ∷ word ':' ∷ a TYPE ∷ word '=' ∷ a (EXPR records) ∷ word semicolon ∷ row 40 ∷ []
+declaration-const = word 'const' ∷ a NAME ∷ word ':' ∷ a TYPE ∷ word '=' ∷ a (EXPR records) ∷ word semicolon ∷ row kinds.CONST ∷ []
 
 pub declaration-const-on : On DECLARATION (some declaration-const) ('const' ∷ [])
 unfolding roto picks-on
 declaration-const-on = record { computed = tt }
 
 abbrev pub declaration-fn : List Symbol
-declaration-fn = word 'fn' ∷ a NAME ∷ a PARAMS ∷ a RESULT ∷ a BLOCK ∷ row 41 ∷ []
+declaration-fn = word 'fn' ∷ a NAME ∷ a PARAMS ∷ a RESULT ∷ a BLOCK ∷ row kinds.FN ∷ []
 
 pub declaration-fn-on : On DECLARATION (some declaration-fn) ('fn' ∷ [])
 unfolding roto picks-on
 declaration-fn-on = record { computed = tt }
 
 abbrev pub declaration-filter : List Symbol
-declaration-filter = one filter-words ∷ a NAME ∷ a PARAMS ∷ a BLOCK ∷ row 45 ∷ []
+declaration-filter = one filter-words ∷ a NAME ∷ a PARAMS ∷ a BLOCK ∷ row kinds.FILTER ∷ []
 
 pub declaration-filter-on : On DECLARATION (some declaration-filter) filter-words
 unfolding roto picks-on
@@ -234,7 +235,7 @@ unfolding roto picks-on
 declaration-import-on = record { computed = tt }
 
 abbrev pub declaration-test : List Symbol
-declaration-test = word 'test' ∷ a NAME ∷ a BLOCK ∷ row 42 ∷ []
+declaration-test = word 'test' ∷ a NAME ∷ a BLOCK ∷ row kinds.TEST ∷ []
 
 pub declaration-test-on : On DECLARATION (some declaration-test) ('test' ∷ [])
 unfolding roto picks-on
@@ -266,7 +267,7 @@ result-off = record { computed = tt }
 
 -- TYPED-NAME
 abbrev pub typed-name-is : List Symbol
-typed-name-is = a NAME ∷ word ':' ∷ a TYPE ∷ row 8 ∷ []
+typed-name-is = a NAME ∷ word ':' ∷ a TYPE ∷ row kinds.TYPED-NAME ∷ []
 
 pub typed-name-any : Off TYPED-NAME (some typed-name-is) []
 unfolding roto picks-off
@@ -274,7 +275,7 @@ typed-name-any = record { computed = tt }
 
 -- NAME
 abbrev pub name-is : List Symbol
-name-is = one names ∷ row 1 ∷ []
+name-is = one names ∷ row kinds.NAME ∷ []
 
 pub name-any : Off NAME (some name-is) []
 unfolding roto picks-off
@@ -290,7 +291,7 @@ import-any = record { computed = tt }
 
 -- IMPORTED
 abbrev pub imported-is : List Symbol
-imported-is = a IMPORTPATH ∷ row 39 ∷ []
+imported-is = a IMPORTPATH ∷ row kinds.IMPORT ∷ []
 
 pub imported-any : Off IMPORTED (some imported-is) []
 unfolding roto picks-off
@@ -298,7 +299,7 @@ imported-any = record { computed = tt }
 
 -- IMPORTPATH
 abbrev pub importpath-is : List Symbol
-importpath-is = a PATH-ITEM ∷ a IMPORTPATH-REST ∷ row 44 ∷ []
+importpath-is = a PATH-ITEM ∷ a IMPORTPATH-REST ∷ row kinds.IMPORT-PATH ∷ []
 
 pub importpath-any : Off IMPORTPATH (some importpath-is) []
 unfolding roto picks-off
@@ -357,7 +358,7 @@ importpaths-more-off = record { computed = tt }
 
 -- PATH-ITEM
 abbrev pub path-item-is : List Symbol
-path-item-is = one path-items ∷ row 1 ∷ []
+path-item-is = one path-items ∷ row kinds.NAME ∷ []
 
 pub path-item-any : Off PATH-ITEM (some path-item-is) []
 unfolding roto picks-off
@@ -365,7 +366,7 @@ path-item-any = record { computed = tt }
 
 -- PATH
 abbrev pub path-is : List Symbol
-path-is = a PATH-ITEM ∷ a PATH-REST ∷ row 2 ∷ []
+path-is = a PATH-ITEM ∷ a PATH-REST ∷ row kinds.PATH ∷ []
 
 pub path-any : Off PATH (some path-is) []
 unfolding roto picks-off
@@ -393,7 +394,7 @@ type-any = record { computed = tt }
 
 -- TYPE-MARKS
 abbrev pub type-marks-is : List Symbol
-type-marks-is = word '?' ∷ row 5 ∷ a TYPE-MARKS ∷ []
+type-marks-is = word '?' ∷ row kinds.OPTION ∷ a TYPE-MARKS ∷ []
 
 pub type-marks-on : On TYPE-MARKS (some type-marks-is) ('?' ∷ [])
 unfolding roto picks-on
@@ -405,21 +406,21 @@ type-marks-off = record { computed = tt }
 
 -- TYPE-BASE
 abbrev pub type-base-never : List Symbol
-type-base-never = word '!' ∷ row 3 ∷ []
+type-base-never = word '!' ∷ row kinds.NEVER ∷ []
 
 pub type-base-never-on : On TYPE-BASE (some type-base-never) ('!' ∷ [])
 unfolding roto picks-on
 type-base-never-on = record { computed = tt }
 
 abbrev pub type-base-unit : List Symbol
-type-base-unit = opens open-paren ∷ closes close-paren ∷ row 4 ∷ []
+type-base-unit = opens open-paren ∷ closes close-paren ∷ row kinds.UNIT ∷ []
 
 pub type-base-unit-on : On TYPE-BASE (some type-base-unit) (open-paren ∷ [])
 unfolding roto picks-on
 type-base-unit-on = record { computed = tt }
 
 abbrev pub type-base-record : List Symbol
-type-base-record = opens open-brace ∷ a TYPED-NAMES ∷ closes close-brace ∷ row 7 ∷ []
+type-base-record = opens open-brace ∷ a TYPED-NAMES ∷ closes close-brace ∷ row kinds.RECORD-TYPE ∷ []
 
 pub type-base-record-on : On TYPE-BASE (some type-base-record) (open-brace ∷ [])
 unfolding roto picks-on
@@ -438,14 +439,14 @@ type-base-off = record { computed = tt }
 
 -- TYPE-BRACKETS
 abbrev pub type-brackets-is : List Symbol
-type-brackets-is = opens open-bracket ∷ a TYPES ∷ closes close-bracket ∷ part ∷ row 6 ∷ []
+type-brackets-is = opens open-bracket ∷ a TYPES ∷ closes close-bracket ∷ part ∷ row kinds.PATH-TYPE ∷ []
 
 pub type-brackets-on : On TYPE-BRACKETS (some type-brackets-is) (open-bracket ∷ [])
 unfolding roto picks-on
 type-brackets-on = record { computed = tt }
 
 abbrev pub type-brackets-none : List Symbol
-type-brackets-none = row 6 ∷ []
+type-brackets-none = row kinds.PATH-TYPE ∷ []
 
 pub type-brackets-off : Off TYPE-BRACKETS (some type-brackets-none) (open-bracket ∷ [])
 unfolding roto picks-off
@@ -453,7 +454,7 @@ type-brackets-off = record { computed = tt }
 
 -- BLOCK
 abbrev pub block-is : List Symbol
-block-is = opens open-brace ∷ a STATEMENTS ∷ closes close-brace ∷ row 35 ∷ []
+block-is = opens open-brace ∷ a STATEMENTS ∷ closes close-brace ∷ row kinds.BLOCK ∷ []
 
 pub block-any : Off BLOCK (some block-is) []
 unfolding roto picks-off
@@ -543,7 +544,7 @@ after-expr-off = record { computed = tt }
 
 -- LET
 abbrev pub let-is : List Symbol
-let-is = word 'let' ∷ a NAME ∷ a LET-TYPE ∷ word '=' ∷ a (EXPR records) ∷ word semicolon ∷ row 38 ∷ []
+let-is = word 'let' ∷ a NAME ∷ a LET-TYPE ∷ word '=' ∷ a (EXPR records) ∷ word semicolon ∷ row kinds.LET ∷ []
 
 pub let-any : Off LET (some let-is) []
 unfolding roto picks-off
@@ -587,7 +588,7 @@ braces-any = record { computed = tt }
 
 -- FIELD
 abbrev pub field-is : List Symbol
-field-is = a FIELD-NAME ∷ word ':' ∷ a (EXPR records) ∷ row 37 ∷ []
+field-is = a FIELD-NAME ∷ word ':' ∷ a (EXPR records) ∷ row kinds.FIELD ∷ []
 
 pub field-any : Off FIELD (some field-is) []
 unfolding roto picks-off
@@ -595,7 +596,7 @@ field-any = record { computed = tt }
 
 -- FIELD-NAME
 abbrev pub field-name-is : List Symbol
-field-name-is = one names ∷ row 1 ∷ []
+field-name-is = one names ∷ row kinds.NAME ∷ []
 
 pub field-name-any : Off FIELD-NAME (some field-name-is) []
 unfolding roto picks-off
@@ -603,28 +604,28 @@ field-name-any = record { computed = tt }
 
 -- FOUR
 abbrev pub four-if : List Symbol
-four-if = head 'if' ∷ a (EXPR no-records) ∷ behind BLOCK ∷ behind ELSE ∷ row 28 ∷ []
+four-if = head 'if' ∷ a (EXPR no-records) ∷ behind BLOCK ∷ behind ELSE ∷ row kinds.IF ∷ []
 
 pub four-if-on : On FOUR (some four-if) ('if' ∷ [])
 unfolding roto picks-on
 four-if-on = record { computed = tt }
 
 abbrev pub four-while : List Symbol
-four-while = head 'while' ∷ a (EXPR no-records) ∷ behind BLOCK ∷ row 29 ∷ []
+four-while = head 'while' ∷ a (EXPR no-records) ∷ behind BLOCK ∷ row kinds.WHILE ∷ []
 
 pub four-while-on : On FOUR (some four-while) ('while' ∷ [])
 unfolding roto picks-on
 four-while-on = record { computed = tt }
 
 abbrev pub four-for : List Symbol
-four-for = head 'for' ∷ a NAME ∷ word 'in' ∷ a (EXPR no-records) ∷ behind BLOCK ∷ row 30 ∷ []
+four-for = head 'for' ∷ a NAME ∷ word 'in' ∷ a (EXPR no-records) ∷ behind BLOCK ∷ row kinds.FOR ∷ []
 
 pub four-for-on : On FOUR (some four-for) ('for' ∷ [])
 unfolding roto picks-on
 four-for-on = record { computed = tt }
 
 abbrev pub four-match : List Symbol
-four-match = head 'match' ∷ a (EXPR no-records) ∷ opens open-brace ∷ behind ARMS ∷ closes close-brace ∷ row 31 ∷ []
+four-match = head 'match' ∷ a (EXPR no-records) ∷ opens open-brace ∷ behind ARMS ∷ closes close-brace ∷ row kinds.MATCH ∷ []
 
 pub four-match-on : On FOUR (some four-match) ('match' ∷ [])
 unfolding roto picks-on
@@ -667,7 +668,7 @@ elses-off = record { computed = tt }
 
 -- ELSE-IF
 abbrev pub else-if-is : List Symbol
-else-if-is = token is-else-if ('if' ∷ []) ∷ a (EXPR no-records) ∷ behind BLOCK ∷ behind ELSE ∷ row 28 ∷ []
+else-if-is = token is-else-if ('if' ∷ []) ∷ a (EXPR no-records) ∷ behind BLOCK ∷ behind ELSE ∷ row kinds.IF ∷ []
 
 pub else-if-any : Off ELSE-IF (some else-if-is) []
 unfolding roto picks-off
@@ -695,14 +696,14 @@ arm-any = record { computed = tt }
 
 -- ARM-BODY
 abbrev pub arm-block : List Symbol
-arm-block = a BLOCK ∷ row 32 ∷ a ARM-COMMA ∷ a ARMS ∷ []
+arm-block = a BLOCK ∷ row kinds.ARM ∷ a ARM-COMMA ∷ a ARMS ∷ []
 
 pub arm-block-on : On ARM-BODY (some arm-block) (open-brace ∷ [])
 unfolding roto picks-on
 arm-block-on = record { computed = tt }
 
 abbrev pub arm-expr : List Symbol
-arm-expr = unless (open-brace ∷ []) ∷ a (EXPR records) ∷ row 32 ∷ a ARM-NEXT ∷ []
+arm-expr = unless (open-brace ∷ []) ∷ a (EXPR records) ∷ row kinds.ARM ∷ a ARM-NEXT ∷ []
 
 pub arm-expr-on : On ARM-BODY (some arm-expr) braceless
 unfolding roto picks-on
@@ -757,7 +758,7 @@ unfolding roto picks-on
 pattern-variant-on = record { computed = tt }
 
 abbrev pub pattern-underscore : List Symbol
-pattern-underscore = word underscore ∷ row 33 ∷ []
+pattern-underscore = word underscore ∷ row kinds.ANY ∷ []
 
 pub pattern-underscore-on : On PATTERN (some pattern-underscore) (underscore ∷ [])
 unfolding roto picks-on
@@ -769,7 +770,7 @@ pattern-off = record { computed = tt }
 
 -- VARIANT
 abbrev pub variant-is : List Symbol
-variant-is = word name ∷ row 1 ∷ []
+variant-is = word name ∷ row kinds.NAME ∷ []
 
 pub variant-any : Off VARIANT (some variant-is) []
 unfolding roto picks-off
@@ -777,14 +778,14 @@ variant-any = record { computed = tt }
 
 -- VARIANT-NAMES
 abbrev pub variant-names-is : List Symbol
-variant-names-is = opens open-paren ∷ a NAMES ∷ closes close-paren ∷ part ∷ row 34 ∷ []
+variant-names-is = opens open-paren ∷ a NAMES ∷ closes close-paren ∷ part ∷ row kinds.VARIANT ∷ []
 
 pub variant-names-on : On VARIANT-NAMES (some variant-names-is) (open-paren ∷ [])
 unfolding roto picks-on
 variant-names-on = record { computed = tt }
 
 abbrev pub variant-names-none : List Symbol
-variant-names-none = row 34 ∷ []
+variant-names-none = row kinds.VARIANT ∷ []
 
 pub variant-names-off : Off VARIANT-NAMES (some variant-names-none) (open-paren ∷ [])
 unfolding roto picks-off
@@ -792,7 +793,7 @@ variant-names-off = record { computed = tt }
 
 -- EXPR
 abbrev pub expr-return : Bool → List Symbol
-expr-return b = prefix return-words ∷ a (RETURNED b) ∷ row 27 ∷ []
+expr-return b = prefix return-words ∷ a (RETURNED b) ∷ row kinds.RETURN ∷ []
 
 pub expr-return-on : (b : Bool) → On (EXPR b) (some (expr-return b)) return-words
 unfolding roto picks-on
@@ -830,7 +831,7 @@ returned-any = record { computed = tt }
 
 -- ASSIGNED
 abbrev pub assigned-is : Bool → List Symbol
-assigned-is b = one assign-signs ∷ a (BINARY b) ∷ row 26 ∷ []
+assigned-is b = one assign-signs ∷ a (BINARY b) ∷ row kinds.ASSIGN ∷ []
 
 pub assigned-on : (b : Bool) → On (ASSIGNED b) (some (assigned-is b)) assign-signs
 unfolding roto picks-on
@@ -853,7 +854,7 @@ binary-any false = record { computed = tt }
 
 -- OR-MORE
 abbrev pub or-more-is : Bool → List Symbol
-or-more-is b = word '||' ∷ a (AND b) ∷ row 20 ∷ a (OR-MORE b) ∷ []
+or-more-is b = word '||' ∷ a (AND b) ∷ row kinds.BINARY ∷ a (OR-MORE b) ∷ []
 
 pub or-more-on : (b : Bool) → On (OR-MORE b) (some (or-more-is b)) ('||' ∷ [])
 unfolding roto picks-on
@@ -876,7 +877,7 @@ and-any false = record { computed = tt }
 
 -- AND-MORE
 abbrev pub and-more-is : Bool → List Symbol
-and-more-is b = word '&&' ∷ a (COMPARE b) ∷ row 20 ∷ a (AND-MORE b) ∷ []
+and-more-is b = word '&&' ∷ a (COMPARE b) ∷ row kinds.BINARY ∷ a (AND-MORE b) ∷ []
 
 pub and-more-on : (b : Bool) → On (AND-MORE b) (some (and-more-is b)) ('&&' ∷ [])
 unfolding roto picks-on
@@ -899,7 +900,7 @@ compare-any false = record { computed = tt }
 
 -- COMPARE-MORE
 abbrev pub compare-more-is : Bool → List Symbol
-compare-more-is b = one compare-signs ∷ a (SUM b) ∷ row 20 ∷ []
+compare-more-is b = one compare-signs ∷ a (SUM b) ∷ row kinds.BINARY ∷ []
 
 pub compare-more-on : (b : Bool) → On (COMPARE-MORE b) (some (compare-more-is b)) compare-signs
 unfolding roto picks-on
@@ -922,7 +923,7 @@ sum-any false = record { computed = tt }
 
 -- SUM-MORE
 abbrev pub sum-more-is : Bool → List Symbol
-sum-more-is b = one sum-signs ∷ a (PRODUCT b) ∷ row 20 ∷ a (SUM-MORE b) ∷ []
+sum-more-is b = one sum-signs ∷ a (PRODUCT b) ∷ row kinds.BINARY ∷ a (SUM-MORE b) ∷ []
 
 pub sum-more-on : (b : Bool) → On (SUM-MORE b) (some (sum-more-is b)) sum-signs
 unfolding roto picks-on
@@ -945,7 +946,7 @@ product-any false = record { computed = tt }
 
 -- PRODUCT-MORE
 abbrev pub product-more-is : Bool → List Symbol
-product-more-is b = one product-signs ∷ a (OPERAND b) ∷ row 20 ∷ a (PRODUCT-MORE b) ∷ []
+product-more-is b = one product-signs ∷ a (OPERAND b) ∷ row kinds.BINARY ∷ a (PRODUCT-MORE b) ∷ []
 
 pub product-more-on : (b : Bool) → On (PRODUCT-MORE b) (some (product-more-is b)) product-signs
 unfolding roto picks-on
@@ -959,7 +960,7 @@ product-more-off false = record { computed = tt }
 
 -- OPERAND
 abbrev pub operand-not : Bool → List Symbol
-operand-not b = prefix ('!' ∷ []) ∷ a (OPERAND b) ∷ row 21 ∷ []
+operand-not b = prefix ('!' ∷ []) ∷ a (OPERAND b) ∷ row kinds.NOT ∷ []
 
 pub operand-not-on : (b : Bool) → On (OPERAND b) (some (operand-not b)) ('!' ∷ [])
 unfolding roto picks-on
@@ -967,7 +968,7 @@ operand-not-on true = record { computed = tt }
 operand-not-on false = record { computed = tt }
 
 abbrev pub operand-minus : Bool → List Symbol
-operand-minus b = prefix ('-' ∷ []) ∷ a (OPERAND b) ∷ row 22 ∷ []
+operand-minus b = prefix ('-' ∷ []) ∷ a (OPERAND b) ∷ row kinds.NEGATE ∷ []
 
 pub operand-minus-on : (b : Bool) → On (OPERAND b) (some (operand-minus b)) ('-' ∷ [])
 unfolding roto picks-on
@@ -1035,7 +1036,7 @@ operand-block-on = record { computed = tt }
 
 -- POSTFIX
 abbrev pub postfix-question : Bool → List Symbol
-postfix-question b = word '?' ∷ row 25 ∷ a (POSTFIX b) ∷ []
+postfix-question b = word '?' ∷ row kinds.QUESTION ∷ a (POSTFIX b) ∷ []
 
 pub postfix-question-on : (b : Bool) → On (POSTFIX b) (some (postfix-question b)) ('?' ∷ [])
 unfolding roto picks-on
@@ -1043,7 +1044,7 @@ postfix-question-on true = record { computed = tt }
 postfix-question-on false = record { computed = tt }
 
 abbrev pub postfix-call : Bool → List Symbol
-postfix-call b = opens open-paren ∷ a EXPRS ∷ closes close-paren ∷ row 23 ∷ a (POSTFIX b) ∷ []
+postfix-call b = opens open-paren ∷ a EXPRS ∷ closes close-paren ∷ row kinds.CALL ∷ a (POSTFIX b) ∷ []
 
 pub postfix-call-on : (b : Bool) → On (POSTFIX b) (some (postfix-call b)) (open-paren ∷ [])
 unfolding roto picks-on
@@ -1051,7 +1052,7 @@ postfix-call-on true = record { computed = tt }
 postfix-call-on false = record { computed = tt }
 
 abbrev pub postfix-access : Bool → List Symbol
-postfix-access b = word dot ∷ a NAME ∷ row 24 ∷ a (POSTFIX b) ∷ []
+postfix-access b = word dot ∷ a NAME ∷ row kinds.ACCESS ∷ a (POSTFIX b) ∷ []
 
 pub postfix-access-on : (b : Bool) → On (POSTFIX b) (some (postfix-access b)) (dot ∷ [])
 unfolding roto picks-on
@@ -1065,7 +1066,7 @@ postfix-off false = record { computed = tt }
 
 -- AFTER-PATH
 abbrev pub after-path-question : Bool → List Symbol
-after-path-question b = word '?' ∷ row 25 ∷ a (POSTFIX b) ∷ []
+after-path-question b = word '?' ∷ row kinds.QUESTION ∷ a (POSTFIX b) ∷ []
 
 pub after-path-question-on : (b : Bool) → On (AFTER-PATH b) (some (after-path-question b)) ('?' ∷ [])
 unfolding roto picks-on
@@ -1073,7 +1074,7 @@ after-path-question-on true = record { computed = tt }
 after-path-question-on false = record { computed = tt }
 
 abbrev pub after-path-call : Bool → List Symbol
-after-path-call b = opens open-paren ∷ a EXPRS ∷ closes close-paren ∷ row 23 ∷ a (POSTFIX b) ∷ []
+after-path-call b = opens open-paren ∷ a EXPRS ∷ closes close-paren ∷ row kinds.CALL ∷ a (POSTFIX b) ∷ []
 
 pub after-path-call-on : (b : Bool) → On (AFTER-PATH b) (some (after-path-call b)) (open-paren ∷ [])
 unfolding roto picks-on
@@ -1081,7 +1082,7 @@ after-path-call-on true = record { computed = tt }
 after-path-call-on false = record { computed = tt }
 
 abbrev pub after-path-record : List Symbol
-after-path-record = opens open-brace ∷ a FIELDS ∷ closes close-brace ∷ part ∷ row 36 ∷ a (POSTFIX records) ∷ []
+after-path-record = opens open-brace ∷ a FIELDS ∷ closes close-brace ∷ part ∷ row kinds.RECORD ∷ a (POSTFIX records) ∷ []
 
 pub after-path-record-on : On (AFTER-PATH true) (some after-path-record) (open-brace ∷ [])
 unfolding roto picks-on
@@ -1158,10 +1159,10 @@ rest-after-path false = refl
 
 -- BRACES-INSIDE: a name with `:` next begins a field
 abbrev pub braces-inside-fields : List Symbol
-braces-inside-fields = a FIELD ∷ a FIELDS-MORE ∷ closes close-brace ∷ row 36 ∷ []
+braces-inside-fields = a FIELD ∷ a FIELDS-MORE ∷ closes close-brace ∷ row kinds.RECORD ∷ []
 
 abbrev pub braces-inside-statements : List Symbol
-braces-inside-statements = a STATEMENTS ∷ closes close-brace ∷ row 35 ∷ []
+braces-inside-statements = a STATEMENTS ∷ closes close-brace ∷ row kinds.BLOCK ∷ []
 
 pub braces-inside-on : On BRACES-INSIDE (some braces-inside-statements) insideFirsts
 unfolding roto picks-on
@@ -1193,15 +1194,15 @@ unflagged c d n t = n (eqb→eq d 46 (elim (or-cases (eqb c 13 && eqb d 46) ((eq
   | inr k ↦ elim (or-cases (eqb c 14 && eqb d 46) false k) [ inl j ↦ and-r (eqb c 14) (eqb d 46) j | inr j ↦ absurd j ]
 ]))
 
-module _ (s : List ℕ) {h h′ : Here} (g : Stands s h) (m : T (one-of (h .word) names)) (e : h′ ≡ passed s h) where
-  next-word : ((source s) .look (h .place) ≡ found (tokenOf s h) (h .next)) × (peek (source s) language (h .next) ≡ h′ .word)
+module _ (s : List ℕ) {h h′ : Here} (g : Stands s h) (m : T (one-of (wordOf h) names)) (e : h′ ≡ passed s h) where
+  next-word : ((source s) .look (h .place) ≡ found (tokenOf s h) (nextOf h)) × (peek (source s) language (nextOf h) ≡ wordOf h′)
   next-word =
-      let w = solid-word (h .word) names tt m in
+      let w = solid-word (wordOf h) names tt m in
       let k = goes-past g (w .0) (w .1) e in
-      (is-token g (w .0) (w .1) .0, subst (λ (x : ℕ). peek (source s) language x ≡ h′ .word) (k .1) (peeks (k .0)))
+      (is-token g (w .0) (w .1) .0, subst (λ (x : ℕ). peek (source s) language x ≡ wordOf h′) (k .1) (peeks (k .0)))
 
-  pub braces-inside-field : h′ .word ≡ 46 → chosen language BRACES-INSIDE (view (source s) language (h .place)) ≡ some braces-inside-fields
-  braces-inside-field c = pair-place language BRACES-INSIDE (some braces-inside-fields) (source s) names (h .place) (next-word .0) (flagged (h .word) (peek (source s) language (h .next)) m (next-word .1 ∙ c)) inside-pair m
+  pub braces-inside-field : wordOf h′ ≡ 46 → chosen language BRACES-INSIDE (view (source s) language (h .place)) ≡ some braces-inside-fields
+  braces-inside-field c = pair-place language BRACES-INSIDE (some braces-inside-fields) (source s) names (h .place) (next-word .0) (flagged (wordOf h) (peek (source s) language (nextOf h)) m (next-word .1 ∙ c)) inside-pair m
 
-  pub braces-inside-other : h′ .word ≢ 46 → chosen language BRACES-INSIDE (view (source s) language (h .place)) ≡ some braces-inside-statements
-  braces-inside-other c = one-place language BRACES-INSIDE (some braces-inside-statements) (source s) names (h .place) (next-word .0) (unflagged (h .word) (peek (source s) language (h .next)) (λ q. c (sym (next-word .1) ∙ q))) inside-one m
+  pub braces-inside-other : wordOf h′ ≢ 46 → chosen language BRACES-INSIDE (view (source s) language (h .place)) ≡ some braces-inside-statements
+  braces-inside-other c = one-place language BRACES-INSIDE (some braces-inside-statements) (source s) names (h .place) (next-word .0) (unflagged (wordOf h) (peek (source s) language (nextOf h)) (λ q. c (sym (next-word .1) ∙ q))) inside-one m

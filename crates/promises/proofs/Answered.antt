@@ -21,7 +21,7 @@ use Rattle.parser.specs.declared.Limits.{Limits}
 use Rattle.parser.specs.declared.Node.{Node}
 use Rattle.parser.specs.declared.Read.{Read}
 use Rattle.parser.specs.declared.Read.the-variants.{Done, Refused}
-use Rattle.parser.specs.Places.{passed, later, unused, nodeOf}
+use Rattle.parser.specs.Places.{wordOf, startOf, endOf, nextOf, passed, later, unused, nodeOf}
 use Rattle.parser.specs.Counted.{counts, plain as plainly}
 use Rattle.parser.specs.Going.{Stands, Tally, bare, many, rowOver, Phrase, Going, Answers}
 use Rattle.parser.proofs.Standing.{here-rows, solid, next-small, says, is-word}
@@ -34,7 +34,7 @@ use Rattle.promises.specs.Promises.{the, PartlyIs, Partly}
 -- A phrase that was read ends further on and has a row; a table keeps its length.
 pub record Further (s : List ℕ) (h : Here) (t : List ℕ) (z : Here) (t′ : List ℕ) : Type 0 where
   pub stands : Stands s z
-  pub next : h .next < z .next
+  pub next : nextOf h < nextOf z
   pub rows : h .rows < z .rows
   pub kept : length t′ ≡ length t
 
@@ -73,7 +73,7 @@ partly-as {f} {r} {t} {G} {H} u k = record { is = go r (u .is) }
     go (Refused e) x = x
 
 -- a phrase that has no alternative where the reader stands
-pub none-fits : {f : Phrase} {j : ℕ} {w : List ℕ} {r : Read} → Off (f .kind) none w → Stands (f .text) (f .from) → (T (one-of (f .from .word) w) → ⊥) → r ≡ unused (f .from) → Answers f j r (f .table)
+pub none-fits : {f : Phrase} {j : ℕ} {w : List ℕ} {r : Read} → Off (f .kind) none w → Stands (f .text) (f .from) → (T (one-of (wordOf (f .from)) w) → ⊥) → r ≡ unused (f .from) → Answers f j r (f .table)
 none-fits {f} o g n e = stopped e (record { place = f .from .place; why = amiss (f .kind); stops = stops-none (picks-else (f .text) g o n); says = says g (amiss (f .kind)) (λ len x. refl, λ len q. refl); kept = refl })
 
 -- two answers that are one; none is both
@@ -89,7 +89,7 @@ not-first x c w n k t = elim (or-cases (eqb x c) (one-of x w) t) [ inl e ↦ n (
 
 -- a row behind a token, where the table is told by the place before it
 pub put-behind : (s : List ℕ) (h : Here) (t : List ℕ) (q : Row) {t′ : List ℕ} → t′ ≡ putRow t (h .rows) q → t′ ≡ putRow t ((passed s h) .rows) q
-put-behind s h t q e = e ∙ ap (λ (n : ℕ). putRow t n q) (sym (here-rows s (h .next) (h .rows)))
+put-behind s h t q e = e ∙ ap (λ (n : ℕ). putRow t n q) (sym (here-rows s (nextOf h) (h .rows)))
 
 -- a phrase whose last step is its row; the same from within its last rest
 module _ {f : Phrase} {d : Counts} {h : Here} {t : List ℕ} {y : Tally} {v i n : ℕ} {q : Row} {r : Read} {t′ : List ℕ} {k : ℕ} where
@@ -100,12 +100,12 @@ module _ {f : Phrase} {d : Counts} {h : Here} {t : List ℕ} {y : Tally} {v i n 
   finished-in g l a b e p w = done p (ends (out (out (writes (fewer (k + 1) l g) a b e refl w))) refl refl refl)
 
 -- a phrase that is one word and its row
-pub word-row : {f : Phrase} {d : Counts} {h h′ : Here} {t t′ : List ℕ} {c n k : ℕ} {q : Row} {r : Read} → Going f (at d (token plain (c ∷ []) ∷ note n ∷ []) ∷ []) h t bare 0 0 → T (solid (c ∷ [])) → eqb n 0 ≡ false → eqb n literal-row ≡ false → k ≤ 3 → h .word ≡ c → h′ ≡ passed (f .text) h → q ≡ rowOver n (many (h .start) (h .end) 0 (some (h .word))) 0 → r ≡ Done (nodeOf q) (later h′) → t′ ≡ putRow t (h′ .rows) q → Answers f k r t′
+pub word-row : {f : Phrase} {d : Counts} {h h′ : Here} {t t′ : List ℕ} {c n k : ℕ} {q : Row} {r : Read} → Going f (at d (token plain (c ∷ []) ∷ note n ∷ []) ∷ []) h t bare 0 0 → T (solid (c ∷ [])) → eqb n 0 ≡ false → eqb n literal-row ≡ false → k ≤ 3 → wordOf h ≡ c → h′ ≡ passed (f .text) h → q ≡ rowOver n (many (startOf h) (endOf h) 0 (some (wordOf h))) 0 → r ≡ Done (nodeOf q) (later h′) → t′ ≡ putRow t (h′ .rows) q → Answers f k r t′
 unfolding kept
 word-row g o z l i m p e u w = finished (takes g o (is-word m) tt p) (omega (arith, i)) z l e u w
 
 -- the measure of a cycle's member: a place, and a level there
-pub falls-on : {s : List ℕ} {z : Here} (n i j t : ℕ) → (70000 - n) * 64 + i ≡ t → n < z .next → Stands s z → j < 64 → (70000 - z .next) * 64 + j < t
+pub falls-on : {s : List ℕ} {z : Here} (n i j t : ℕ) → (70000 - n) * 64 + i ≡ t → n < nextOf z → Stands s z → j < 64 → (70000 - nextOf z) * 64 + j < t
 falls-on n i j t e l g q =
     let a = next-small g in
     let b = g .short in
@@ -113,3 +113,7 @@ falls-on n i j t e l g q =
 
 pub falls-same : (n i j t : ℕ) → (70000 - n) * 64 + i ≡ t → j < i → (70000 - n) * 64 + j < t
 falls-same n i j t e q = omega (arith, e, q)
+
+-- the same phrase by other names
+pub read-as : {s : List ℕ} {l l′ : Limits} {n j : ℕ} {h h′ : Here} {t t₁ t₂ : List ℕ} {r r′ : Read} → h′ ≡ h → l′ ≡ l → r ≡ r′ → t₁ ≡ t₂ → Answers (the s (counts l′) n h′ t) j r′ t₂ → Answers (the s (counts l) n h t) j r t₁
+read-as {s} {l} {l′} {n} {j} {h} {t = t} {t₁ = t₁} {t₂} {r} {r′} a b c d u = subst (λ (x : List ℕ). Answers (the s (counts l) n h t) j r x) (sym d) (subst (λ (x : Read). Answers (the s (counts l) n h t) j x t₂) (sym c) (subst (λ (x : Limits). Answers (the s (counts x) n h t) j r′ t₂) b (subst (λ (x : Here). Answers (the s (counts l′) n x t) j r′ t₂) a u)))

@@ -2,14 +2,14 @@
 -- leaves too, so that they can be read one behind the other.
 use mathlib.Core.Path.{_≡_, refl, sym, ap, subst, _∙_}
 use mathlib.Core.List.{List, [], _∷_, _++_, append-assoc, append-nil}
-use mathlib.Core.Bool.{Bool, true, false}
+use mathlib.Core.Bool.{Bool, true, false, cond}
 use mathlib.Core.Option.{Option, none}
 use mathlib.Core.Logic.{inl, inr, _≢_}
-use Prim.Native.Nat.{ℕ, zero, suc, _+_, _≤_, _<_}
+use Prim.Native.Nat.{ℕ, _+_, _≤_, _<_}
 use lib.Dec.{T, eqb, eqb→eq, eqb-refl}
 use lib.ListN.{length}
 use native.Mathlib.Omega.{arith}
-use Rattle.chars.specs.Chars.{pick}
+use Rattle.rows.specs.Kinds as kinds
 use Rattle.tokens.specs.declared.Refusal.{Refusal}
 use Rattle.rows.specs.declared.Row.{Row}
 use Rattle.rows.specs.Rows.{putRow}
@@ -28,25 +28,26 @@ use Rattle.grammar.proofs.Summary.{or-word}
 use Rattle.grammar.proofs.Frame.{write-phrase}
 use Rattle.grammar.proofs.Open.{Left, Open, with-phrase, start, finish, pop, reads, Runs, Fails, tail}
 use Rattle.answers.specs.Source.{source}
+use Rattle.parser.specs.declared.Arm.{Arm}
 use Rattle.parser.specs.declared.Here.{Here}
 use Rattle.parser.specs.declared.Limits.{Limits}
 use Rattle.parser.specs.declared.Node.{Node}
 use Rattle.parser.specs.declared.Read.{Read}
 use Rattle.parser.specs.declared.Read.the-variants.{Done, Refused}
-use Rattle.parser.specs.Places.{passed, later, unused, nodeOf, plainRow, expected}
+use Rattle.parser.specs.Places.{wordOf, endOf, nextOf, passed, later, unused, nodeOf, plainRow, expected}
 use Rattle.parser.specs.Counted.{counts, plain as plainly}
-use Rattle.parser.specs.Going.{language, Stands, Tally, many, lone, withNode, Phrase, Going, Answers}
+use Rattle.parser.specs.Going.{language, Stands, Tally, many, lone, withNode, Phrase, Going, Stopped, Answers}
 use Rattle.parser.proofs.Standing.{next-small, is-word, the-word}
 use Rattle.parser.proofs.Tables.{store-length}
 use Rattle.parser.proofs.Tallies.{children-append, children-twice}
-use Rattle.parser.proofs.Going.{at, takes, out, last, none-of, parts, writes, read-in, next-phrase, reads-one, ends, refuses-in, whole-of, stopped, fewer, as-many, adds, goes-added}
+use Rattle.parser.proofs.Going.{at, takes, out, last, none-of, parts, writes, read-in, next-phrase, reads-one, ends, refuses-in, whole-of, stopped-of, stopped, fewer, as-many, adds, goes-added}
 use Rattle.parser.proofs.Picks.{picks-at, picks-else, begins-on, begins-any, into-on, into-off, refuses-off}
 use Rattle.parser.proofs.Steps.{counts-same, expects, misses}
 use Rattle.parser.proofs.Sides.{Around, encloses-word, encloses-out, encloses-ends}
-use Rattle.promises.specs.Firsts.{exprFirsts, armEnd}
-use Rattle.promises.specs.Promises.{the, Partly, Perhaps, Closed, Guarded, Matched, armLeft, Armed, Bodied}
+use Rattle.promises.specs.Firsts.{partOf, exprFirsts, lastArm, armEnd}
+use Rattle.promises.specs.Promises.{the, Partly, Perhaps, Closed, Guarded, Matched, Armed, ArmIs, OneArm, Bodied}
 use Rattle.promises.proofs.Alternatives.{brace-less, arms-on, arms-off, arm-any, arm-block-on, arm-expr-on, arm-off, arm-next-on, arm-next-off, arm-comma-on, arm-comma-off, guard-on, guard-off}
-use Rattle.promises.proofs.Partly.{partly, partly-of, partly-stops, partly-stopped, stops-partly, relays-partly}
+use Rattle.promises.proofs.Partly.{partly, partly-of, partly-stops, partly-stopped}
 use Rattle.promises.proofs.Answered.{Further, partly-as, done-is}
 use Rattle.promises.proofs.Blocks.{closes-row, leaves-row}
 use Rattle.promises.proofs.Heads.{reads-it, refuses-it, reads-partly, counts-behind}
@@ -104,7 +105,7 @@ module _ {f : Phrase} {d : Counts} {ks : List Left} {h : Here} {t : List ℕ} {y
   stands-alone p e g = record { draft = g .draft; opened = asks-alone (f .text) p e (g .opened); stands = g .stands; holds = g .holds; part = g .part; rows = g .rows; stored = g .stored; began = g .began; counted = g .counted; spares = g .spares }
 
   -- no arm more
-  pub arms-none : {ss : List Symbol} → (T (one-of (h .word) names) → ⊥) → Going f (at d (a ARMS ∷ ss) ∷ ks) h t y v k → Going f (at d ss ∷ ks) h t y v k
+  pub arms-none : {ss : List Symbol} → (T (one-of (wordOf h) names) → ⊥) → Going f (at d (a ARMS ∷ ss) ∷ ks) h t y v k → Going f (at d ss ∷ ks) h t y v k
   unfolding inside
   arms-none {ss} n g =
       let x : Draft = g .draft in
@@ -112,7 +113,7 @@ module _ {f : Phrase} {d : Counts} {ks : List Left} {h : Here} {t : List ℕ} {y
       let S = source (f .text) in
       record { draft = x; opened = subst (λ (z : Draft). Open S language (f .counts) same (f .kind) (f .from .place) (at d ss ∷ ks) (h .place) z) nil (reads S language refl (finish S language (pop S language (start S language [] (picks-else (f .text) (g .stands) arms-off n)))) (g .opened)); stands = g .stands; holds = g .holds; part = g .part; rows = g .rows; stored = g .stored; began = g .began; counted = g .counted; spares = g .spares }
 
-  module _ (w : T (one-of (h .word) names)) {h′ : Here} {t′ : List ℕ} {m : Node} {j : ℕ} where
+  module _ (w : T (one-of (wordOf h) names)) {h′ : Here} {t′ : List ℕ} {m : Node} {j : ℕ} where
     -- an arm, and others may follow
     pub arm-more : Going f (at d (a ARMS ∷ []) ∷ ks) h t y v k → Around (next-phrase f d ARM h t) (at d (a ARMS ∷ []) ∷ []) h′ t′ m j → Going f (at d (a ARMS ∷ []) ∷ ks) h′ t′ (withNode y m) v (k + j)
     arm-more g u = goes-added g (adds {b = u .draft} {m = m} g (u .leaves) (u .rows) (u .stored) (u .counted) (u .spares)) (follows (source (f .text)) language refl refl (picks-at (f .text) (g .stands) arms-on w) (u .opened) (g .opened)) (u .stands)
@@ -132,7 +133,7 @@ pub record Arming (f : Phrase) (d : Counts) (ks : List Left) (x c : ℕ) (h : He
 pub record Gone (s : List ℕ) (l : Limits) (c₀ : ℕ) (h₀ : Here) (t₀ : List ℕ) (c : ℕ) (h : Here) (t : List ℕ) : Type 0 where
   pub arming : (f : Phrase) (ks : List Left) (x : ℕ) → f .text ≡ s → Arming f (counts l) ks x c₀ h₀ t₀ → Arming f (counts l) ks x c h t
   pub stands : Stands s h₀ → Stands s h
-  pub next : h₀ .next ≤ h .next
+  pub next : nextOf h₀ ≤ nextOf h
   pub counted : c + h₀ .rows ≤ c₀ + h .rows
   pub kept : length t ≡ length t₀
 
@@ -140,7 +141,7 @@ pub gone-start : {s : List ℕ} {l : Limits} {c : ℕ} {h : Here} {t : List ℕ}
 gone-start = record { arming = λ f ks x q g. g; stands = λ g. g; next = omega arith; counted = omega arith; kept = refl }
 
 -- the numbers stay small
-pub gone-few : {s : List ℕ} {l : Limits} {c : ℕ} {h₀ h : Here} {t₀ t : List ℕ} → Gone s l 1 h₀ t₀ c h t → Stands s h₀ → (c < 300000) × (h .next ≤ length s + 1) × (length s ≤ 65535) × (h₀ .next ≤ h .next)
+pub gone-few : {s : List ℕ} {l : Limits} {c : ℕ} {h₀ h : Here} {t₀ t : List ℕ} → Gone s l 1 h₀ t₀ c h t → Stands s h₀ → (c < 300000) × (nextOf h ≤ length s + 1) × (length s ≤ 65535) × (nextOf h₀ ≤ nextOf h)
 gone-few b g =
     let x = b .stands g in
     let c = b .counted in
@@ -150,35 +151,39 @@ gone-few b g =
     let i = b .next in
     (omega (arith, c, f, n, o), n, o, i)
 
--- an arm that another may follow; the last
-armed-more : {f : Phrase} {h : Here} {t : List ℕ} (n : ℕ) (u : Armed f n h t) → n ≢ 0 → Around f (at (f .counts) (a ARMS ∷ []) ∷ []) h t (u .node) 1
-armed-more zero u e = absurd (e refl)
-armed-more (suc n) u e = u .around
-
-armed-last : {f : Phrase} {h : Here} {t : List ℕ} (n : ℕ) (u : Armed f n h t) → n ≡ 0 → Around f [] h t (u .node) 1
-armed-last {f} {h} {t} n u e = subst (λ (x : ℕ). Around f (armLeft (f .counts) x) h t (u .node) 1) e (u .around)
-
 -- how far an arm has come
-pub arm-further : {f : Phrase} {n : ℕ} {h : Here} {t : List ℕ} → Armed f n h t → Further (f .text) (f .from) (f .table) h t
+pub arm-further : {f : Phrase} {ks : List Left} {h : Here} {t : List ℕ} → Armed f ks h t → Further (f .text) (f .from) (f .table) h t
 arm-further {f} b = let u = b .around in let c = u .counted in let p = u .spares in record { stands = u .stands; next = omega (arith, c, p); rows = omega (arith, c); kept = ap length (u .stored) ∙ store-length (f .table) (f .from .rows) (u .draft .rows) }
 
+-- what an arm's answer says, and the answer that says it
+module _ {f : Phrase} {r q : Arm} {t : List ℕ} where
+  pub armed : OneArm f r t → r ≡ q → ArmIs f q t
+  armed u e = subst (λ (j : Arm). ArmIs f j t) e (u .is)
+
+  arm-is : r ≡ q → ArmIs f q t → OneArm f r t
+  arm-is e u = record { is = subst (λ (j : Arm). ArmIs f j t) (sym e) u }
+
+arm-stops : {f : Phrase} {r : Read} {v : Arm} {t : List ℕ} {x : Refusal} → v ≡ lastArm r → r ≡ Refused x → Stopped f x t → OneArm f v t
+unfolding lastArm
+arm-stops i e u = arm-is (i ∙ ap lastArm e) u
+
 -- what an arm promises
-abbrev pub Arm : List ℕ → Counts → Here → List ℕ → Read → List ℕ → Type 0
-Arm s d h t r t′ = Partly (the s d ARM h t) r t′ (λ m z. Armed (the s d ARM h t) (m .children) z t′)
+abbrev pub ArmOf : List ℕ → Counts → Here → List ℕ → Arm → List ℕ → Type 0
+ArmOf s d h t r t′ = OneArm (the s d ARM h t) r t′
 
-arm-of : {x s : List ℕ} {d : Counts} {h : Here} {t : List ℕ} {r : Read} {t′ : List ℕ} → x ≡ s → Arm s d h t r t′ → Arm x d h t r t′
-arm-of {d = d} {h = h} {t = t} {r = r} {t′ = t′} q u = subst (λ (y : List ℕ). Arm y d h t r t′) (sym q) u
+arm-of : {x s : List ℕ} {d : Counts} {h : Here} {t : List ℕ} {r : Arm} {t′ : List ℕ} → x ≡ s → ArmOf s d h t r t′ → ArmOf x d h t r t′
+arm-of {d = d} {h = h} {t = t} {r = r} {t′ = t′} q u = subst (λ (y : List ℕ). ArmOf y d h t r t′) (sym q) u
 
-module _ {s : List ℕ} {l : Limits} {c₀ c : ℕ} {h₀ h : Here} {t₀ t : List ℕ} (b : Gone s l c₀ h₀ t₀ c h t) (w : T (one-of (h .word) names)) {r : Read} {t′ : List ℕ} (u : Arm s (counts l) h t r t′) where
-  pub gone-on : {m : Node} {z : Here} → r ≡ Done m z → m .children ≢ 0 → Gone s l c₀ h₀ t₀ (c + 1) z t′
-  gone-on {m} e n =
-      let y = arm-further (partly-of u e) in
+module _ {s : List ℕ} {l : Limits} {c₀ c : ℕ} {h₀ h : Here} {t₀ t : List ℕ} (b : Gone s l c₀ h₀ t₀ c h t) (w : T (one-of (wordOf h) names)) {r : Arm} {t′ : List ℕ} (u : ArmOf s (counts l) h t r t′) where
+  pub gone-on : {z : Here} → r ≡ Arm.Followed z → Gone s l c₀ h₀ t₀ (c + 1) z t′
+  gone-on {z} e =
+      let y : Further s h t z t′ = arm-further (armed u e) in
       let p = b .next in
       let o = b .counted in
       let i = y .next in
       let j = y .rows in
       record {
-        arming = λ f ks x q g. (let k = partly-of (arm-of q u) e in record { end = k .node .end; sign = b .arming f ks x q g .sign; going = fewer 1 (omega arith) (arm-more w (b .arming f ks x q g .going) (armed-more (m .children) k n)) });
+        arming = λ f ks x q g. (let k : Armed (the (f .text) (counts l) ARM h t) (at (counts l) (a ARMS ∷ []) ∷ []) z t′ = armed (arm-of q u) e in record { end = k .node .end; sign = b .arming f ks x q g .sign; going = fewer 1 (omega arith) (arm-more w (b .arming f ks x q g .going) (k .around)) });
         stands = λ g. y .stands;
         next = omega (arith, p, i);
         counted = omega (arith, o, j);
@@ -187,49 +192,51 @@ module _ {s : List ℕ} {l : Limits} {c₀ c : ℕ} {h₀ h : Here} {t₀ t : Li
 
 -- a match
 module _ {s : List ℕ} {l : Limits} {start c : ℕ} {h₀ h : Here} {t₀ t : List ℕ} (b : Gone s l 1 h₀ t₀ c h t) where
-  armed-so : {f : Phrase} {d : Counts} {e : ℕ} {w : Option ℕ} → f .text ≡ s → inside body d ≡ counts l → Going f (at d (behind ARMS ∷ closes close-brace ∷ row 31 ∷ []) ∷ []) h₀ t₀ (many start e 1 w) 0 1 → Arming f (counts l) (at d (closes close-brace ∷ row 31 ∷ []) ∷ []) start c h t
-  armed-so {f} {d} q z g = b .arming f (at d (closes close-brace ∷ row 31 ∷ []) ∷ []) start q (record { end = _; sign = _; going = stands-alone refl z g })
+  armed-so : {f : Phrase} {d : Counts} {e : ℕ} {w : Option ℕ} → f .text ≡ s → inside body d ≡ counts l → Going f (at d (behind ARMS ∷ closes close-brace ∷ row kinds.MATCH ∷ []) ∷ []) h₀ t₀ (many start e 1 w) 0 1 → Arming f (counts l) (at d (closes close-brace ∷ row kinds.MATCH ∷ []) ∷ []) start c h t
+  armed-so {f} {d} q z g = b .arming f (at d (closes close-brace ∷ row kinds.MATCH ∷ []) ∷ []) start q (record { end = _; sign = _; going = stands-alone refl z g })
 
-  pub arms-end : {v : Row} {r : Read} {t′ : List ℕ} → (T (one-of (h .word) names) → ⊥) → v ≡ plainRow 31 start (h .end) c → Closed s h t close-brace v r t′ → Matched s h₀ t₀ l start r t′
+  pub arms-end : {v : Row} {r : Read} {t′ : List ℕ} → (T (one-of (wordOf h) names) → ⊥) → v ≡ plainRow kinds.MATCH start (endOf h) c → Closed s h t close-brace v r t′ → Matched s h₀ t₀ l start r t′
   arms-end {v} {r} {t′} n o k f d e w q z g = leaves-row r (omega arith) (closes-row (out (arms-none n (armed-so q z g .going))) refl refl o (subst (λ (y : List ℕ). Closed y h t close-brace v r t′) (sym q) k))
 
-  module _ (w : T (one-of (h .word) names)) {r : Read} {t′ : List ℕ} (u : Arm s (counts l) h t r t′) where
-    pub arms-fail : {x : Refusal} → r ≡ Refused x → Matched s h₀ t₀ l start r t′
+  module _ (w : T (one-of (wordOf h) names)) {r : Arm} {t′ : List ℕ} (u : ArmOf s (counts l) h t r t′) where
+    pub arms-fail : {x : Refusal} {r′ : Read} → r ≡ Arm.Refused x → r′ ≡ Refused x → Matched s h₀ t₀ l start r′ t′
     unfolding inside
-    arms-fail x f d e i q z g = let y = armed-so q z g .going in stopped x (refuses-in y refl (refuses-in (begins-on arms-on (y .stands) w) refl (partly-stopped (arm-of q u) x)))
+    arms-fail x o f d e i q z g = let y = armed-so q z g .going in stopped o (refuses-in y refl (refuses-in (begins-on arms-on (y .stands) w) refl (armed (arm-of q u) x)))
 
-    pub arms-last : {m : Node} {z : Here} {v : Row} {r₁ : Read} {t₁ : List ℕ} → r ≡ Done m z → m .children ≡ 0 → v ≡ plainRow 31 start (z .end) (c + 1) → Closed s z t′ close-brace v r₁ t₁ → Matched s h₀ t₀ l start r₁ t₁
-    arms-last {m} {z = j} {v = v} {r₁ = r₁} {t₁ = t₁} x n o k f d e i q z g = leaves-row r₁ (omega arith) (closes-row (fewer 1 (omega arith) (out (arm-last w (armed-so q z g .going) (armed-last (m .children) (partly-of (arm-of q u) x) n)))) refl refl o (subst (λ (y : List ℕ). Closed y j t′ close-brace v r₁ t₁) (sym q) k))
+    pub arms-last : {z : Here} {v : Row} {r₁ : Read} {t₁ : List ℕ} → r ≡ Arm.Last z → v ≡ plainRow kinds.MATCH start (endOf z) (c + 1) → Closed s z t′ close-brace v r₁ t₁ → Matched s h₀ t₀ l start r₁ t₁
+    arms-last {z = j} {v = v} {r₁ = r₁} {t₁ = t₁} x o k f d e i q z g =
+        let m : Armed (the (f .text) (counts l) ARM h t) [] j t′ = armed (arm-of q u) x in
+        leaves-row r₁ (omega arith) (closes-row (fewer 1 (omega arith) (out (arm-last w (armed-so q z g .going) (m .around)))) refl refl o (subst (λ (y : List ℕ). Closed y j t′ close-brace v r₁ t₁) (sym q) k))
 
 -- perhaps `if expr`
-pub guard-none : {s : List ℕ} {h : Here} {t : List ℕ} {l : Limits} {r : Read} → h .word ≢ 69 → r ≡ Done (record { kind = 0; start = h .start; end = h .end; children = 0 }) h → Guarded s h t l r t
-guard-none {h = h} {t = t} n j f d ss ks x e c k w q z g = partly j (record { end = e; sign = w; one = omega arith; going = subst (λ (i : ℕ). Going f (at d ss ∷ ks) h t (many x e i w) 0 k) (omega arith) (out (into-off guard-off refl (λ m. n (the-word m)) g)) })
+pub guard-none : (l : Limits) {s : List ℕ} {h : Here} {t : List ℕ} {r : Read} → wordOf h ≢ 69 → r ≡ Done (partOf 0) h → Guarded s h t l r t
+guard-none l {h = h} {t = t} n j f d ss ks x e c k w q z g = partly j (record { end = e; sign = w; one = omega arith; going = subst (λ (i : ℕ). Going f (at d ss ∷ ks) h t (many x e i w) 0 k) (omega arith) (out (into-off guard-off refl (λ m. n (the-word m)) g)) })
 
-guard-word : {f : Phrase} {s : List ℕ} {h h₁ : Here} {t : List ℕ} {d : Counts} {ss : List Symbol} {ks : List Left} {x e c k : ℕ} {w : Option ℕ} → h .word ≡ 69 → h₁ ≡ passed s h → f .text ≡ s → Going f (at d (a GUARD ∷ ss) ∷ ks) h t (many x e c w) 0 k → Going f (at (after plain d) (a (EXPR records) ∷ part ∷ []) ∷ at d ss ∷ ks) h₁ t (many x (h .end) c (or-word w (h .word))) 0 (k + 4)
+guard-word : {f : Phrase} {s : List ℕ} {h h₁ : Here} {t : List ℕ} {d : Counts} {ss : List Symbol} {ks : List Left} {x e c k : ℕ} {w : Option ℕ} → wordOf h ≡ 69 → h₁ ≡ passed s h → f .text ≡ s → Going f (at d (a GUARD ∷ ss) ∷ ks) h t (many x e c w) 0 k → Going f (at (after plain d) (a (EXPR records) ∷ part ∷ []) ∷ at d ss ∷ ks) h₁ t (many x (endOf h) c (or-word w (wordOf h))) 0 (k + 4)
 unfolding inside kept
 guard-word {h = h} {h₁ = h₁} i j q g = takes (into-on guard-on refl (is-word i) g) tt (is-word i) tt (subst (λ (y : List ℕ). h₁ ≡ passed y h) (sym q) j)
 
-module _ {s : List ℕ} {h h₁ : Here} {t : List ℕ} {l l₁ : Limits} (i : h .word ≡ 69) (j : h₁ ≡ passed s h) (p : l₁ ≡ plainly l) {r : Read} {t₁ : List ℕ} (u : Answers (the s (counts l₁) (EXPR records) h₁ t) 1 r t₁) where
+module _ (l : Limits) {s : List ℕ} {h h₁ : Here} {t : List ℕ} {l₁ : Limits} (i : wordOf h ≡ 69) (j : h₁ ≡ passed s h) (p : l₁ ≡ plainly l) {r : Read} {t₁ : List ℕ} (u : Answers (the s (counts l₁) (EXPR records) h₁ t) 1 r t₁) where
   pub guard-fails : {y : Refusal} → r ≡ Refused y → Guarded s h t l r t₁
   unfolding inside
-  guard-fails y f d ss ks x e c k w q z g = partly-stops y (refuses-it q (counts-behind z p) u (guard-word i j q g) y)
+  guard-fails y f d ss ks x e c k w q z g = partly-stops y (refuses-it q (counts-behind l z p) u (guard-word i j q g) y)
 
-  pub guard-ends : {m : Node} {z : Here} {r₁ : Read} → r ≡ Done m z → r₁ ≡ Done (record { kind = 0; start = m .start; end = m .end; children = 1 }) z → Guarded s h t l r₁ t₁
+  pub guard-ends : {m : Node} {z : Here} {r₁ : Read} → r ≡ Done m z → r₁ ≡ Done (partOf 1) z → Guarded s h t l r₁ t₁
   unfolding inside
-  guard-ends {m} v y f d ss ks x e c k w q z g = partly y (record { end = m .end; sign = or-word w (h .word); one = omega arith; going = fewer k (omega arith) (out (parts (reads-it q (counts-behind z p) u (guard-word i j q g) refl v))) })
+  guard-ends {m} v y f d ss ks x e c k w q z g = partly y (record { end = m .end; sign = or-word w (wordOf h); one = omega arith; going = fewer k (omega arith) (out (parts (reads-it q (counts-behind l z p) u (guard-word i j q g) refl v))) })
 
 -- the body of an arm
-module _ {s : List ℕ} {h : Here} {t : List ℕ} {l : Limits} {r : Read} {t′ : List ℕ} where
-  pub body-block : h .word ≡ open-brace → Answers (the s (counts l) BLOCK h t) 1 r t′ → Bodied s h t l r t′
+module _ (l : Limits) {s : List ℕ} {h : Here} {t : List ℕ} {r : Read} {t′ : List ℕ} where
+  pub body-block : wordOf h ≡ open-brace → Answers (the s (counts l) BLOCK h t) 1 r t′ → Bodied s h t l r t′
   unfolding inside
   body-block i u f d ks y v k q z g = partly-as (reads-partly q z u (into-on arm-block-on refl (is-word i) g) refl) (λ m h′ x. (λ o. x, λ o. absurd (o i)))
 
-  pub body-expr : h .word ≢ open-brace → T (one-of (h .word) exprFirsts) → Answers (the s (counts l) (EXPR records) h t) 1 r t′ → Bodied s h t l r t′
+  pub body-expr : wordOf h ≢ open-brace → T (one-of (wordOf h) exprFirsts) → Answers (the s (counts l) (EXPR records) h t) 1 r t′ → Bodied s h t l r t′
   unfolding inside
-  body-expr n i u f d ks y v k q z g = partly-as (reads-partly q z u (none-of (λ m. n (the-word m)) (into-on arm-expr-on refl (brace-less (h .word) i n) g)) refl) (λ m h′ x. (λ o. absurd (n o), λ o. x))
+  body-expr n i u f d ks y v k q z g = partly-as (reads-partly q z u (none-of (λ m. n (the-word m)) (into-on arm-expr-on refl (brace-less (wordOf h) i n) g)) refl) (λ m h′ x. (λ o. absurd (n o), λ o. x))
 
-pub body-fails : {s : List ℕ} {h : Here} {t : List ℕ} {l : Limits} {r : Read} → (T (one-of (h .word) exprFirsts) → ⊥) → r ≡ unused h → Bodied s h t l r t
-body-fails n e f d ks y v k q z g = partly-stops e (refuses-off arm-off n g)
+pub body-fails : (l : Limits) {s : List ℕ} {h : Here} {t : List ℕ} {r : Read} → (T (one-of (wordOf h) exprFirsts) → ⊥) → r ≡ unused h → Bodied s h t l r t
+body-fails l n e f d ks y v k q z g = partly-stops e (refuses-off arm-off n g)
 
 -- one arm
 around-of : {f : Phrase} {ks : List Left} {h : Here} {t : List ℕ} {a b c v k : ℕ} → Going f ks h t (lone a b c) v k → Around f ks h t (record { kind = a; start = b; end = c; children = 0 }) k
@@ -239,40 +246,37 @@ around-of g = record { draft = g .draft; opened = g .opened; stands = g .stands;
 around-last : {f : Phrase} {ks : List Left} {h : Here} {t : List ℕ} {m : Node} {k n : ℕ} {o : Scope} {d d′ d″ : Counts} → d ≡ d″ → Around f (at d (phrase o n ∷ []) ∷ at d′ [] ∷ ks) h t m (k + 4) → Around f (at d″ (phrase o n ∷ []) ∷ ks) h t m k
 around-last {f} {ks} {h} {t} {n = n} {o = o} e g = record { draft = g .draft; opened = subst (λ (x : Counts). Open (source (f .text)) language (f .counts) same (f .kind) (f .from .place) (at x (phrase o n ∷ []) ∷ ks) (h .place) (g .draft)) e (tail (source (f .text)) language (g .opened)); stands = g .stands; leaves = g .leaves; rows = g .rows; stored = g .stored; counted = g .counted; spares = let x = g .spares in omega (arith, x) }
 
-abbrev Ended : Phrase → List ℕ → Read → Type 0
-Ended f t r = Partly f r t (λ m z. Armed f (m .children) z t)
-
 -- behind a block a comma may stand; behind an expr it must, where another arm follows
-module _ {f : Phrase} {h : Here} {t : List ℕ} {j x e v : ℕ} (begin : ℕ) {r : Read} (u : r ≡ armEnd (f .text) h begin) where
-  comma-block : begin ≡ open-brace → Going f (at (f .counts) (a ARM-COMMA ∷ a ARMS ∷ []) ∷ at (f .counts) [] ∷ []) h t (lone j x e) v 1 → Ended f t r
+module _ {f : Phrase} {h : Here} {t : List ℕ} {j x e v : ℕ} (begin : ℕ) {r : Arm} (u : r ≡ armEnd (f .text) h begin) where
+  comma-block : begin ≡ open-brace → Going f (at (f .counts) (a ARM-COMMA ∷ a ARMS ∷ []) ∷ at (f .counts) [] ∷ []) h t (lone j x e) v 1 → OneArm f r t
   unfolding inside kept
-  comma-block b g = subst (Ended f t) (sym (u ∙ ap (armEnd (f .text) h) b)) (go (eqb (h .word) comma) refl)
+  comma-block b g = subst (λ (k : Arm). OneArm f k t) (sym (u ∙ ap (armEnd (f .text) h) b)) (go (eqb (wordOf h) comma) refl)
     where
-      go : (y : Bool) → eqb (h .word) comma ≡ y → Ended f t (pick y (Done (record { kind = 0; start = h .start; end = h .end; children = 1 }) (passed (f .text) h)) (Done (record { kind = 0; start = h .start; end = h .end; children = 1 }) h))
-      go true y = let m = is-word (eqb→eq (h .word) comma (subst T (sym y) tt)) in partly refl (record { node = _; one = omega arith; around = around-last refl (encloses-out (encloses-word (around-of (into-on arm-comma-on refl m g)) tt m tt refl)) })
-      go false y = partly refl (record { node = _; one = omega arith; around = around-of (last (out (into-off arm-comma-off refl (λ m. subst T (ap (eqb (h .word)) (the-word m) ∙ y) (eqb-refl (h .word))) g))) })
+      go : (y : Bool) → eqb (wordOf h) comma ≡ y → OneArm f (cond y (Arm.Followed (passed (f .text) h)) (Arm.Followed h)) t
+      go true y = let m = is-word (eqb→eq (wordOf h) comma (subst T (sym y) tt)) in record { is = record { node = _; around = around-last refl (encloses-out (encloses-word (around-of (into-on arm-comma-on refl m g)) tt m tt refl)) } }
+      go false y = record { is = record { node = _; around = around-of (last (out (into-off arm-comma-off refl (λ m. subst T (ap (eqb (wordOf h)) (the-word m) ∙ y) (eqb-refl (wordOf h))) g))) } }
 
-  comma-expr : after plain (f .counts) ≡ f .counts → begin ≢ open-brace → Going f (at (f .counts) (a ARM-NEXT ∷ []) ∷ at (f .counts) [] ∷ []) h t (lone j x e) v 1 → Ended f t r
+  comma-expr : after plain (f .counts) ≡ f .counts → begin ≢ open-brace → Going f (at (f .counts) (a ARM-NEXT ∷ []) ∷ at (f .counts) [] ∷ []) h t (lone j x e) v 1 → OneArm f r t
   unfolding inside kept
-  comma-expr o b g = subst (Ended f t) (sym (u ∙ ap (λ (y : Bool). pick (eqb (h .word) comma) (Done (record { kind = 0; start = h .start; end = h .end; children = 1 }) (passed (f .text) h)) (Done (record { kind = 0; start = h .start; end = h .end; children = pick y 1 0 }) h)) (F→eq (eqb begin open-brace) (λ y. b (eqb→eq begin open-brace y))))) (go (eqb (h .word) comma) refl)
+  comma-expr o b g = subst (λ (k : Arm). OneArm f k t) (sym (u ∙ ap (λ (y : Bool). cond (eqb (wordOf h) comma) (Arm.Followed (passed (f .text) h)) (cond y (Arm.Followed h) (Arm.Last h))) (F→eq (eqb begin open-brace) (λ y. b (eqb→eq begin open-brace y))))) (go (eqb (wordOf h) comma) refl)
     where
-      go : (y : Bool) → eqb (h .word) comma ≡ y → Ended f t (pick y (Done (record { kind = 0; start = h .start; end = h .end; children = 1 }) (passed (f .text) h)) (Done (record { kind = 0; start = h .start; end = h .end; children = 0 }) h))
-      go true y = let m = is-word (eqb→eq (h .word) comma (subst T (sym y) tt)) in partly refl (record { node = _; one = omega arith; around = around-last o (encloses-word (around-of (into-on arm-next-on refl m (last g))) tt m tt refl) })
-      go false y = partly refl (record { node = _; one = omega arith; around = around-of (out (out (into-off arm-next-off refl (λ m. subst T (ap (eqb (h .word)) (the-word m) ∙ y) (eqb-refl (h .word))) (last g)))) })
+      go : (y : Bool) → eqb (wordOf h) comma ≡ y → OneArm f (cond y (Arm.Followed (passed (f .text) h)) (Arm.Last h)) t
+      go true y = let m = is-word (eqb→eq (wordOf h) comma (subst T (sym y) tt)) in record { is = record { node = _; around = around-last o (encloses-word (around-of (into-on arm-next-on refl m (last g))) tt m tt refl) } }
+      go false y = record { is = record { node = _; around = around-of (out (out (into-off arm-next-off refl (λ m. subst T (ap (eqb (wordOf h)) (the-word m) ∙ y) (eqb-refl (wordOf h))) (last g)))) } }
 
 -- an arm: its pattern, perhaps a guard, `=>`, its body, its row, perhaps a comma
-module _ {s : List ℕ} {l : Limits} {h : Here} {t : List ℕ} (g : Stands s h) {r₁ : Read} {t₁ : List ℕ} (u₁ : Answers (the s (counts l) PATTERN h t) 1 r₁ t₁) where
-  pub arm-pattern-fails : {x : Refusal} → r₁ ≡ Refused x → Arm s (counts l) h t r₁ t₁
+module _ (l : Limits) {s : List ℕ} {h : Here} {t : List ℕ} (g : Stands s h) {r₁ : Read} {t₁ : List ℕ} (u₁ : Answers (the s (counts l) PATTERN h t) 1 r₁ t₁) where
+  pub arm-pattern-fails : {x : Refusal} {v : Arm} → r₁ ≡ Refused x → v ≡ lastArm r₁ → ArmOf s (counts l) h t v t₁
   unfolding inside
-  arm-pattern-fails x = relays-partly (begins-any arm-any g) refl u₁ x
+  arm-pattern-fails x i = arm-stops i x (refuses-in (begins-any arm-any g) refl (stopped-of u₁ x))
 
   module _ {m₁ : Node} {h₁ : Here} (e₁ : r₁ ≡ Done m₁ h₁) {r₂ : Read} {t₂ : List ℕ} (u₂ : Guarded s h₁ t₁ l r₂ t₂) where
     arm-guard : Partly (the s (counts l) ARM h t) r₂ t₂ (λ m z. Perhaps (the s (counts l) ARM h t) (at (counts l) (word '=>' ∷ a ARM-BODY ∷ []) ∷ []) (m₁ .start) 1 1 (m .children) z t₂)
     unfolding inside
     arm-guard = u₂ (the s (counts l) ARM h t) (counts l) (word '=>' ∷ a ARM-BODY ∷ []) [] (m₁ .start) (m₁ .end) 1 1 none refl refl (as-many (reads-one (begins-any arm-any g) refl refl (whole-of u₁ e₁)))
 
-    pub arm-guard-fails : {x : Refusal} → r₂ ≡ Refused x → Arm s (counts l) h t r₂ t₂
-    arm-guard-fails = stops-partly arm-guard
+    pub arm-guard-fails : {x : Refusal} {v : Arm} → r₂ ≡ Refused x → v ≡ lastArm r₂ → ArmOf s (counts l) h t v t₂
+    arm-guard-fails x i = arm-stops i x (partly-stopped arm-guard x)
 
     module _ {m₂ : Node} {h₂ : Here} (e₂ : r₂ ≡ Done m₂ h₂) where
       -- the guard is one row at most; how far the arm has come
@@ -280,26 +284,26 @@ module _ {s : List ℕ} {l : Limits} {h : Here} {t : List ℕ} (g : Stands s h) 
       arm-guarded = partly-of arm-guard e₂
 
       module _ {r₃ : Read} (u₃ : r₃ ≡ expected s h₂ 21) where
-        pub arm-arrow-fails : {x : Refusal} → r₃ ≡ Refused x → Arm s (counts l) h t r₃ t₂
-        arm-arrow-fails x = partly-stops x (misses 21 (arm-guarded .going) u₃ x)
+        pub arm-arrow-fails : {x : Refusal} {v : Arm} → r₃ ≡ Refused x → v ≡ lastArm r₃ → ArmOf s (counts l) h t v t₂
+        arm-arrow-fails x i = arm-stops i x (misses 21 (arm-guarded .going) tt u₃ x)
 
         pub arm-arrow : {m₃ : Node} {h₃ : Here} → r₃ ≡ Done m₃ h₃ → Going (the s (counts l) ARM h t) (at (after plain (counts l)) (a ARM-BODY ∷ []) ∷ []) h₃ t₂ (many (m₁ .start) (m₃ .end) (1 + m₂ .children) (or-word (arm-guarded .sign) 21)) (m₂ .children) 5
         arm-arrow e₃ = expects 21 (arm-guarded .going) tt u₃ e₃
 
         module _ {m₃ : Node} {h₃ : Here} (e₃ : r₃ ≡ Done m₃ h₃) {l₁ : Limits} (p : l₁ ≡ plainly l) {r₄ : Read} {t₄ : List ℕ} (u₄ : Bodied s h₃ t₂ l₁ r₄ t₄) where
-          arm : Partly (the s (counts l) ARM h t) r₄ t₄ (λ m z. (h₃ .word ≡ open-brace → Going (the s (counts l) ARM h t) (at (after plain (counts l)) (row 32 ∷ a ARM-COMMA ∷ a ARMS ∷ []) ∷ at (after plain (counts l)) [] ∷ []) z t₄ (many (m₁ .start) (m .end) (1 + m₂ .children + 1) (or-word (arm-guarded .sign) 21)) (m₂ .children) 6) × (h₃ .word ≢ open-brace → Going (the s (counts l) ARM h t) (at (after plain (counts l)) (row 32 ∷ a ARM-NEXT ∷ []) ∷ at (after plain (counts l)) [] ∷ []) z t₄ (many (m₁ .start) (m .end) (1 + m₂ .children + 1) (or-word (arm-guarded .sign) 21)) (m₂ .children) 6))
-          arm = u₄ (the s (counts l) ARM h t) (after plain (counts l)) [] _ _ 5 refl (counts-behind refl p) (arm-arrow e₃)
+          arm : Partly (the s (counts l) ARM h t) r₄ t₄ (λ m z. (wordOf h₃ ≡ open-brace → Going (the s (counts l) ARM h t) (at (after plain (counts l)) (row kinds.ARM ∷ a ARM-COMMA ∷ a ARMS ∷ []) ∷ at (after plain (counts l)) [] ∷ []) z t₄ (many (m₁ .start) (m .end) (1 + m₂ .children + 1) (or-word (arm-guarded .sign) 21)) (m₂ .children) 6) × (wordOf h₃ ≢ open-brace → Going (the s (counts l) ARM h t) (at (after plain (counts l)) (row kinds.ARM ∷ a ARM-NEXT ∷ []) ∷ at (after plain (counts l)) [] ∷ []) z t₄ (many (m₁ .start) (m .end) (1 + m₂ .children + 1) (or-word (arm-guarded .sign) 21)) (m₂ .children) 6))
+          arm = u₄ (the s (counts l) ARM h t) (after plain (counts l)) [] _ _ 5 refl (counts-behind l refl p) (arm-arrow e₃)
 
-          pub arm-fails : {x : Refusal} → r₄ ≡ Refused x → Arm s (counts l) h t r₄ t₄
-          arm-fails = stops-partly arm
+          pub arm-fails : {x : Refusal} {v : Arm} → r₄ ≡ Refused x → v ≡ lastArm r₄ → ArmOf s (counts l) h t v t₄
+          arm-fails x i = arm-stops i x (partly-stopped arm x)
 
-          module _ {m₄ : Node} {h₄ : Here} (e₄ : r₄ ≡ Done m₄ h₄) {v : Row} (i : v ≡ record { kind = 32; start = m₁ .start; end = m₄ .end; children = m₂ .children + 2; value = m₂ .children; detail = 0 }) {r₅ : Read} {t₅ : List ℕ} (u₅ : r₅ ≡ Done (nodeOf v) (later h₄)) (q : t₅ ≡ putRow t₄ (h₄ .rows) v) {m₅ : Node} {h₅ : Here} (e₅ : r₅ ≡ Done m₅ h₅) where
-            arm-row : {ss : List Symbol} → l .signs ≡ 0 → Going (the s (counts l) ARM h t) (at (after plain (counts l)) (row 32 ∷ ss) ∷ at (after plain (counts l)) [] ∷ []) h₄ t₄ (many (m₁ .start) (m₄ .end) (1 + m₂ .children + 1) (or-word (arm-guarded .sign) 21)) (m₂ .children) 6 → Going (the s (counts l) ARM h t) (at (counts l) ss ∷ at (counts l) [] ∷ []) h₅ t₅ (lone (v .kind) (v .start) (v .end)) 0 1
-            arm-row {ss} o x = subst (λ (d : Counts). Going (the s (counts l) ARM h t) (at d ss ∷ at d [] ∷ []) h₅ t₅ (lone (v .kind) (v .start) (v .end)) 0 1) (counts-same l o) (writes (fewer 2 (omega arith) x) refl refl (i ∙ ap (λ (c : ℕ). record { kind = 32; start = m₁ .start; end = m₄ .end; children = c; value = m₂ .children; detail = 0 }) (omega arith)) (sym (done-is u₅ e₅ .1)) q)
+          module _ {m₄ : Node} {h₄ : Here} (e₄ : r₄ ≡ Done m₄ h₄) {v : Row} (i : v ≡ record { kind = kinds.ARM; start = m₁ .start; end = m₄ .end; children = m₂ .children + 2; value = m₂ .children; detail = 0 }) {r₅ : Read} {t₅ : List ℕ} (u₅ : r₅ ≡ Done (nodeOf v) (later h₄)) (q : t₅ ≡ putRow t₄ (h₄ .rows) v) {m₅ : Node} {h₅ : Here} (e₅ : r₅ ≡ Done m₅ h₅) where
+            arm-row : {ss : List Symbol} → l .signs ≡ 32 → Going (the s (counts l) ARM h t) (at (after plain (counts l)) (row kinds.ARM ∷ ss) ∷ at (after plain (counts l)) [] ∷ []) h₄ t₄ (many (m₁ .start) (m₄ .end) (1 + m₂ .children + 1) (or-word (arm-guarded .sign) 21)) (m₂ .children) 6 → Going (the s (counts l) ARM h t) (at (counts l) ss ∷ at (counts l) [] ∷ []) h₅ t₅ (lone (v .kind) (v .start) (v .end)) 0 1
+            arm-row {ss} o x = subst (λ (d : Counts). Going (the s (counts l) ARM h t) (at d ss ∷ at d [] ∷ []) h₅ t₅ (lone (v .kind) (v .start) (v .end)) 0 1) (counts-same l o) (writes (fewer 2 (omega arith) x) refl refl (i ∙ ap (λ (c : ℕ). record { kind = kinds.ARM; start = m₁ .start; end = m₄ .end; children = c; value = m₂ .children; detail = 0 }) (omega arith)) (sym (done-is u₅ e₅ .1)) q)
 
-            pub arm-ends : {r : Read} → l .signs ≡ 0 → r ≡ armEnd s h₅ (h₃ .word) → Arm s (counts l) h t r t₅
-            arm-ends {r} o x = go (eqb (h₃ .word) open-brace) refl
+            pub arm-ends : {r : Arm} → l .signs ≡ 32 → r ≡ armEnd s h₅ (wordOf h₃) → ArmOf s (counts l) h t r t₅
+            arm-ends {r} o x = go (eqb (wordOf h₃) open-brace) refl
               where
-                go : (b : Bool) → eqb (h₃ .word) open-brace ≡ b → Arm s (counts l) h t r t₅
-                go true y = let m = eqb→eq (h₃ .word) open-brace (subst T (sym y) tt) in comma-block (h₃ .word) x m (arm-row o (partly-of arm e₄ .0 m))
-                go false y = let n : h₃ .word ≢ open-brace = λ m. subst T (ap (eqb (h₃ .word)) m ∙ y) (eqb-refl (h₃ .word)) in comma-expr (h₃ .word) x (counts-same l o) n (arm-row o (partly-of arm e₄ .1 n))
+                go : (b : Bool) → eqb (wordOf h₃) open-brace ≡ b → ArmOf s (counts l) h t r t₅
+                go true y = let m = eqb→eq (wordOf h₃) open-brace (subst T (sym y) tt) in comma-block (wordOf h₃) x m (arm-row o (partly-of arm e₄ .0 m))
+                go false y = let n : wordOf h₃ ≢ open-brace = λ m. subst T (ap (eqb (wordOf h₃)) m ∙ y) (eqb-refl (wordOf h₃)) in comma-expr (wordOf h₃) x (counts-same l o) n (arm-row o (partly-of arm e₄ .1 n))

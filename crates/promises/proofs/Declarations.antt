@@ -7,6 +7,7 @@ use mathlib.Core.Logic.{_⊎_, inl, inr, _≢_}
 use Prim.Native.Nat.{ℕ, _+_, _≤_, _<_}
 use lib.Dec.{T, eqb, eqb→eq, eqb-refl}
 use native.Mathlib.Omega.{arith}
+use Rattle.rows.specs.Kinds as kinds
 use Rattle.tokens.specs.declared.Refusal.{Refusal}
 use Rattle.rows.specs.declared.Row.{Row}
 use Rattle.rows.specs.Rows.{putRow}
@@ -22,7 +23,7 @@ use Rattle.parser.specs.declared.Limits.{Limits}
 use Rattle.parser.specs.declared.Node.{Node}
 use Rattle.parser.specs.declared.Read.{Read}
 use Rattle.parser.specs.declared.Read.the-variants.{Done, Refused}
-use Rattle.parser.specs.Places.{passed, later, unused, nodeOf, plainRow, expected}
+use Rattle.parser.specs.Places.{wordOf, startOf, endOf, passed, later, unused, nodeOf, plainRow, expected}
 use Rattle.parser.specs.Counted.{counts, plain as plainly}
 use Rattle.parser.specs.Going.{Stands, many, Phrase, Going, Answers}
 use Rattle.parser.proofs.Standing.{solid, is-word}
@@ -64,44 +65,44 @@ limited-typing {s} {h} {t} {t′} {n = n} {r = r} e = subst (λ (l : Limits). Ty
 
 -- the rows of `fn`, and of `filter` or `filtermap`: their list has so many children
 abbrev fnRow : ℕ → ℕ → ℕ → ℕ → Row
-fnRow x e c n = record { kind = 41; start = x; end = e; children = c + n + 2; value = n; detail = 0 }
+fnRow x e c n = record { kind = kinds.FN; start = x; end = e; children = c + n + 2; value = n; detail = 0 }
 
 abbrev filterRow : ℕ → ℕ → ℕ → ℕ → Row
-filterRow x e c w = record { kind = 45; start = x; end = e; children = c + 2; value = 0; detail = w }
+filterRow x e c w = record { kind = kinds.FILTER; start = x; end = e; children = c + 2; value = 0; detail = w }
 
 module _ (s : List ℕ) (l : Limits) (i : Here) (t₀ : List ℕ) (g : Stands s i) where
   abbrev Declared : Phrase
   Declared = the s (counts l) DECLARATION i t₀
 
   -- its word and its name
-  module _ {w : List ℕ} {ss : List Symbol} (c : On DECLARATION (some (token plain w ∷ a NAME ∷ ss)) w) (o : T (solid w)) (m : T (one-of (i .word) w)) {j : Here} (b : j ≡ passed s i) {r : Read} {t : List ℕ} (u : Anyhow s NAME j t₀ 3 r t) where
-    declared-word : Going Declared (at (counts (plainly l)) (a NAME ∷ ss) ∷ []) j t₀ (many (i .start) (i .end) 0 (some (i .word))) 0 4
-    unfolding after kept
+  module _ {w : List ℕ} {ss : List Symbol} (c : On DECLARATION (some (token plain w ∷ a NAME ∷ ss)) w) (o : T (solid w)) (m : T (one-of (wordOf i) w)) {j : Here} (b : j ≡ passed s i) {r : Read} {t : List ℕ} (u : Anyhow s NAME j t₀ 3 r t) where
+    declared-word : Going Declared (at (counts (plainly l)) (a NAME ∷ ss) ∷ []) j t₀ (many (startOf i) (endOf i) 0 (some (wordOf i))) 0 4
+    unfolding after kept counts
     declared-word = takes (begins-on c g m) o m tt b
 
     pub unnamed : {e : Refusal} → r ≡ Refused e → Answers Declared 1 r t
     unfolding inside
     unnamed e = relays declared-word refl (u (counts (plainly l))) e
 
-    pub named : {n : Node} {h : Here} → r ≡ Done n h → Going Declared (at (counts (plainly l)) ss ∷ []) h t (many (i .start) (n .end) 1 (some (i .word))) 0 7
+    pub named : {n : Node} {h : Here} → r ≡ Done n h → Going Declared (at (counts (plainly l)) ss ∷ []) h t (many (startOf i) (n .end) 1 (some (wordOf i))) 0 7
     unfolding inside
     named e = reads-one declared-word refl refl (whole-of (u (counts (plainly l))) e)
 
   -- `const name : type = expr ;`
-  module _ (m : i .word ≡ 61) {j : Here} (b : j ≡ passed s i) {r₁ : Read} {t₁ : List ℕ} (u₁ : Anyhow s NAME j t₀ 3 r₁ t₁) where
+  module _ (m : wordOf i ≡ 61) {j : Here} (b : j ≡ passed s i) {r₁ : Read} {t₁ : List ℕ} (u₁ : Anyhow s NAME j t₀ 3 r₁ t₁) where
     pub const-unnamed : {e : Refusal} → r₁ ≡ Refused e → Answers Declared 1 r₁ t₁
     const-unnamed e = unnamed declaration-const-on tt (is-word m) b u₁ e
 
     module _ {n₁ : Node} {h₁ : Here} (e₁ : r₁ ≡ Done n₁ h₁) {r₂ : Read} (q₂ : r₂ ≡ expected s h₁ 46) where
-      const-named : Going Declared (at (counts (plainly l)) (word ':' ∷ a TYPE ∷ word '=' ∷ a (EXPR records) ∷ word semicolon ∷ row 40 ∷ []) ∷ []) h₁ t₁ (many (i .start) (n₁ .end) 1 (some (i .word))) 0 7
+      const-named : Going Declared (at (counts (plainly l)) (word ':' ∷ a TYPE ∷ word '=' ∷ a (EXPR records) ∷ word semicolon ∷ row kinds.CONST ∷ []) ∷ []) h₁ t₁ (many (startOf i) (n₁ .end) 1 (some (wordOf i))) 0 7
       const-named = named declaration-const-on tt (is-word m) b u₁ e₁
 
       pub const-no-colon : {e : Refusal} → r₂ ≡ Refused e → Answers Declared 1 r₂ t₁
-      const-no-colon e = stopped e (misses 46 const-named q₂ e)
+      const-no-colon e = stopped e (misses 46 const-named tt q₂ e)
 
       module _ {n₂ : Node} {h₂ : Here} (e₂ : r₂ ≡ Done n₂ h₂) where
-        pub const-colon : Going Declared (at (counts (plainly l)) (a TYPE ∷ word '=' ∷ a (EXPR records) ∷ word semicolon ∷ row 40 ∷ []) ∷ []) h₂ t₁ (many (i .start) (n₂ .end) 1 (some (i .word))) 0 11
-        unfolding after
+        pub const-colon : Going Declared (at (counts (plainly l)) (a TYPE ∷ word '=' ∷ a (EXPR records) ∷ word semicolon ∷ row kinds.CONST ∷ []) ∷ []) h₂ t₁ (many (startOf i) (n₂ .end) 1 (some (wordOf i))) 0 11
+        unfolding after counts
         const-colon = expects 46 const-named tt q₂ e₂
 
         module _ {r₃ : Read} {t₃ : List ℕ} (u₃ : Answers (the s (counts (plainly l)) TYPE h₂ t₁) 1 r₃ t₃) where
@@ -110,16 +111,16 @@ module _ (s : List ℕ) (l : Limits) (i : Here) (t₀ : List ℕ) (g : Stands s 
           const-untyped e = relays const-colon refl u₃ e
 
           module _ {n₃ : Node} {h₃ : Here} (e₃ : r₃ ≡ Done n₃ h₃) {r₄ : Read} (q₄ : r₄ ≡ expected s h₃ 50) where
-            const-typed : Going Declared (at (counts (plainly l)) (word '=' ∷ a (EXPR records) ∷ word semicolon ∷ row 40 ∷ []) ∷ []) h₃ t₃ (many (i .start) (n₃ .end) 2 (some (i .word))) 0 12
+            const-typed : Going Declared (at (counts (plainly l)) (word '=' ∷ a (EXPR records) ∷ word semicolon ∷ row kinds.CONST ∷ []) ∷ []) h₃ t₃ (many (startOf i) (n₃ .end) 2 (some (wordOf i))) 0 12
             unfolding inside
             const-typed = reads-one const-colon refl refl (whole-of u₃ e₃)
 
             pub const-no-equals : {e : Refusal} → r₄ ≡ Refused e → Answers Declared 1 r₄ t₃
-            const-no-equals e = stopped e (misses 50 const-typed q₄ e)
+            const-no-equals e = stopped e (misses 50 const-typed tt q₄ e)
 
             module _ {n₄ : Node} {h₄ : Here} (e₄ : r₄ ≡ Done n₄ h₄) where
-              pub const-equals : Going Declared (at (counts (plainly l)) (a (EXPR records) ∷ word semicolon ∷ row 40 ∷ []) ∷ []) h₄ t₃ (many (i .start) (n₄ .end) 2 (some (i .word))) 0 16
-              unfolding after
+              pub const-equals : Going Declared (at (counts (plainly l)) (a (EXPR records) ∷ word semicolon ∷ row kinds.CONST ∷ []) ∷ []) h₄ t₃ (many (startOf i) (n₄ .end) 2 (some (wordOf i))) 0 16
+              unfolding after counts
               const-equals = expects 50 const-typed tt q₄ e₄
 
               module _ {r₅ : Read} {t₅ : List ℕ} (u₅ : Answers (the s (counts (plainly l)) (EXPR records) h₄ t₃) 1 r₅ t₅) where
@@ -128,31 +129,31 @@ module _ (s : List ℕ) (l : Limits) (i : Here) (t₀ : List ℕ) (g : Stands s 
                 const-no-value e = relays const-equals refl u₅ e
 
                 module _ {n₅ : Node} {h₅ : Here} (e₅ : r₅ ≡ Done n₅ h₅) {r₆ : Read} (q₆ : r₆ ≡ expected s h₅ 47) where
-                  const-value : Going Declared (at (counts (plainly l)) (word semicolon ∷ row 40 ∷ []) ∷ []) h₅ t₅ (many (i .start) (n₅ .end) 3 (some (i .word))) 0 17
+                  const-value : Going Declared (at (counts (plainly l)) (word semicolon ∷ row kinds.CONST ∷ []) ∷ []) h₅ t₅ (many (startOf i) (n₅ .end) 3 (some (wordOf i))) 0 17
                   unfolding inside
                   const-value = reads-one const-equals refl refl (whole-of u₅ e₅)
 
                   pub const-unended : {e : Refusal} → r₆ ≡ Refused e → Answers Declared 1 r₆ t₅
-                  const-unended e = stopped e (misses 47 const-value q₆ e)
+                  const-unended e = stopped e (misses 47 const-value tt q₆ e)
 
-                  pub const-read : {n₆ : Node} {h₆ : Here} {x : Row} {r : Read} {t : List ℕ} → r₆ ≡ Done n₆ h₆ → x ≡ plainRow 40 (i .start) (n₆ .end) 3 → (r ≡ Done (nodeOf x) (later h₆)) × (t ≡ putRow t₅ (h₆ .rows) x) → Answers Declared 1 r t
+                  pub const-read : {n₆ : Node} {h₆ : Here} {x : Row} {r : Read} {t : List ℕ} → r₆ ≡ Done n₆ h₆ → x ≡ plainRow kinds.CONST (startOf i) (n₆ .end) 3 → (r ≡ Done (nodeOf x) (later h₆)) × (t ≡ putRow t₅ (h₆ .rows) x) → Answers Declared 1 r t
                   unfolding after
                   const-read e₆ e p = done (p .0) (ends (out (writes (fewer 2 (omega arith) (expects 47 const-value tt q₆ e₆)) refl refl e refl (p .1))) refl refl refl)
 
   -- the list behind its name
-  module _ {w : List ℕ} {ss : List Symbol} (c : On DECLARATION (some (token plain w ∷ a NAME ∷ a PARAMS ∷ ss)) w) (o : T (solid w)) (m : T (one-of (i .word) w)) {j : Here} (b : j ≡ passed s i) {r₁ : Read} {t₁ : List ℕ} (u₁ : Anyhow s NAME j t₀ 3 r₁ t₁) {n₁ : Node} {h₁ : Here} (e₁ : r₁ ≡ Done n₁ h₁) {r₂ : Read} {t₂ : List ℕ} (u₂ : Listed s h₁ t₁ (plainly l) 42 TYPED-NAMES 43 r₂ t₂) where
-    listed-partly : Partly Declared r₂ t₂ (λ n h. Going Declared (at (counts (plainly l)) [] ∷ at (counts (plainly l)) ss ∷ []) h t₂ (many (i .start) (n .end) (1 + n .children) (some (i .word))) 0 11)
-    unfolding inside after
+  module _ {w : List ℕ} {ss : List Symbol} (c : On DECLARATION (some (token plain w ∷ a NAME ∷ a PARAMS ∷ ss)) w) (o : T (solid w)) (m : T (one-of (wordOf i) w)) {j : Here} (b : j ≡ passed s i) {r₁ : Read} {t₁ : List ℕ} (u₁ : Anyhow s NAME j t₀ 3 r₁ t₁) {n₁ : Node} {h₁ : Here} (e₁ : r₁ ≡ Done n₁ h₁) {r₂ : Read} {t₂ : List ℕ} (u₂ : Listed s h₁ t₁ (plainly l) 42 TYPED-NAMES 43 r₂ t₂) where
+    listed-partly : Partly Declared r₂ t₂ (λ n h. Going Declared (at (counts (plainly l)) [] ∷ at (counts (plainly l)) ss ∷ []) h t₂ (many (startOf i) (n .end) (1 + n .children) (some (wordOf i))) 0 11)
+    unfolding inside after counts
     listed-partly = u₂ Declared (counts (plainly l)) [] (at (counts (plainly l)) ss ∷ []) _ 0 7 refl (alike-counts (plainly l)) (into-off params-any refl (λ z. z) (named c o m b u₁ e₁))
 
     pub unlisted : {e : Refusal} → r₂ ≡ Refused e → Answers Declared 1 r₂ t₂
     unlisted e = stops-answer listed-partly e
 
-    pub with-params : {n₂ : Node} {h₂ : Here} → r₂ ≡ Done n₂ h₂ → Going Declared (at (counts (plainly l)) ss ∷ []) h₂ t₂ (many (i .start) (n₂ .end) (1 + n₂ .children) (some (i .word))) 0 8
+    pub with-params : {n₂ : Node} {h₂ : Here} → r₂ ≡ Done n₂ h₂ → Going Declared (at (counts (plainly l)) ss ∷ []) h₂ t₂ (many (startOf i) (n₂ .end) (1 + n₂ .children) (some (wordOf i))) 0 8
     with-params e = fewer 8 (omega arith) (out (partly-of listed-partly e))
 
   -- `fn name (params) [-> type] block`
-  module _ (m : i .word ≡ 68) {j : Here} (b : j ≡ passed s i) {r₁ : Read} {t₁ : List ℕ} (u₁ : Anyhow s NAME j t₀ 3 r₁ t₁) where
+  module _ (m : wordOf i ≡ 68) {j : Here} (b : j ≡ passed s i) {r₁ : Read} {t₁ : List ℕ} (u₁ : Anyhow s NAME j t₀ 3 r₁ t₁) where
     pub fn-unnamed : {e : Refusal} → r₁ ≡ Refused e → Answers Declared 1 r₁ t₁
     fn-unnamed e = unnamed declaration-fn-on tt (is-word m) b u₁ e
 
@@ -165,18 +166,18 @@ module _ (s : List ℕ) (l : Limits) (i : Here) (t₀ : List ℕ) (g : Stands s 
         fn-unlisted e = unlisted declaration-fn-on tt (is-word m) b u₁ e₁ u₂ e
 
         module _ {n₂ : Node} {h₂ : Here} (e₂ : r₂ ≡ Done n₂ h₂) where
-          pub fn-listed : Going Declared (at (counts (plainly l)) (a RESULT ∷ a BLOCK ∷ row 41 ∷ []) ∷ []) h₂ t₂ (many (i .start) (n₂ .end) (1 + n₂ .children) (some (i .word))) 0 8
+          pub fn-listed : Going Declared (at (counts (plainly l)) (a RESULT ∷ a BLOCK ∷ row kinds.FN ∷ []) ∷ []) h₂ t₂ (many (startOf i) (n₂ .end) (1 + n₂ .children) (some (wordOf i))) 0 8
           fn-listed = with-params declaration-fn-on tt (is-word m) b u₁ e₁ u₂ e₂
 
           module _ {r₃ : Read} {t₃ : List ℕ} (u₃ : Typing s h₂ t₂ (plainly l) 27 r₃ t₃) where
-            fn-partly : Partly Declared r₃ t₃ (λ n h. Perhaps Declared (at (counts (plainly l)) (a BLOCK ∷ row 41 ∷ []) ∷ []) (i .start) (1 + n₂ .children) 8 (n .children) h t₃)
-            fn-partly = u₃ Declared (counts (plainly l)) (a BLOCK ∷ row 41 ∷ []) [] RESULT (i .start) (n₂ .end) (1 + n₂ .children) 8 (some (i .word)) refl refl (inl (refl, refl)) fn-listed
+            fn-partly : Partly Declared r₃ t₃ (λ n h. Perhaps Declared (at (counts (plainly l)) (a BLOCK ∷ row kinds.FN ∷ []) ∷ []) (startOf i) (1 + n₂ .children) 8 (n .children) h t₃)
+            fn-partly = u₃ Declared (counts (plainly l)) (a BLOCK ∷ row kinds.FN ∷ []) [] RESULT (startOf i) (n₂ .end) (1 + n₂ .children) 8 (some (wordOf i)) refl refl (inl (refl, refl)) fn-listed
 
             pub fn-untyped : {e : Refusal} → r₃ ≡ Refused e → Answers Declared 1 r₃ t₃
             fn-untyped e = stops-answer fn-partly e
 
             module _ {n₃ : Node} {h₃ : Here} (e₃ : r₃ ≡ Done n₃ h₃) where
-              pub fn-typed : Perhaps Declared (at (counts (plainly l)) (a BLOCK ∷ row 41 ∷ []) ∷ []) (i .start) (1 + n₂ .children) 8 (n₃ .children) h₃ t₃
+              pub fn-typed : Perhaps Declared (at (counts (plainly l)) (a BLOCK ∷ row kinds.FN ∷ []) ∷ []) (startOf i) (1 + n₂ .children) 8 (n₃ .children) h₃ t₃
               fn-typed = partly-of fn-partly e₃
 
               module _ {r₄ : Read} {t₄ : List ℕ} (u₄ : Answers (the s (counts (plainly l)) BLOCK h₃ t₃) 1 r₄ t₄) where
@@ -184,12 +185,12 @@ module _ (s : List ℕ) (l : Limits) (i : Here) (t₀ : List ℕ) (g : Stands s 
                 unfolding inside
                 fn-no-block e = relays (fn-typed .going) refl u₄ e
 
-                pub fn-read : {n₄ : Node} {h₄ : Here} {x : Row} {r : Read} {t : List ℕ} → r₄ ≡ Done n₄ h₄ → x ≡ fnRow (i .start) (n₄ .end) (n₂ .children) (n₃ .children) → (r ≡ Done (nodeOf x) (later h₄)) × (t ≡ putRow t₄ (h₄ .rows) x) → Answers Declared 1 r t
+                pub fn-read : {n₄ : Node} {h₄ : Here} {x : Row} {r : Read} {t : List ℕ} → r₄ ≡ Done n₄ h₄ → x ≡ fnRow (startOf i) (n₄ .end) (n₂ .children) (n₃ .children) → (r ≡ Done (nodeOf x) (later h₄)) × (t ≡ putRow t₄ (h₄ .rows) x) → Answers Declared 1 r t
                 unfolding inside
-                fn-read {n₄} e₄ e p = done (p .0) (ends (out (writes (fewer 2 (omega arith) (reads-one (fn-typed .going) refl refl (whole-of u₄ e₄))) refl refl (e ∙ ap (λ (k : ℕ). record { kind = 41; start = i .start; end = n₄ .end; children = k; value = n₃ .children; detail = 0 }) (omega arith)) refl (p .1))) refl refl refl)
+                fn-read {n₄} e₄ e p = done (p .0) (ends (out (writes (fewer 2 (omega arith) (reads-one (fn-typed .going) refl refl (whole-of u₄ e₄))) refl refl (e ∙ ap (λ (k : ℕ). record { kind = kinds.FN; start = startOf i; end = n₄ .end; children = k; value = n₃ .children; detail = 0 }) (omega arith)) refl (p .1))) refl refl refl)
 
   -- `filter` or `filtermap name (params) block`
-  module _ (m : T (one-of (i .word) filter-words)) {j : Here} (b : j ≡ passed s i) {r₁ : Read} {t₁ : List ℕ} (u₁ : Anyhow s NAME j t₀ 3 r₁ t₁) where
+  module _ (m : T (one-of (wordOf i) filter-words)) {j : Here} (b : j ≡ passed s i) {r₁ : Read} {t₁ : List ℕ} (u₁ : Anyhow s NAME j t₀ 3 r₁ t₁) where
     pub filter-unnamed : {e : Refusal} → r₁ ≡ Refused e → Answers Declared 1 r₁ t₁
     filter-unnamed e = unnamed declaration-filter-on tt m b u₁ e
 
@@ -202,7 +203,7 @@ module _ (s : List ℕ) (l : Limits) (i : Here) (t₀ : List ℕ) (g : Stands s 
         filter-unlisted e = unlisted declaration-filter-on tt m b u₁ e₁ u₂ e
 
         module _ {n₂ : Node} {h₂ : Here} (e₂ : r₂ ≡ Done n₂ h₂) where
-          pub filter-listed : Going Declared (at (counts (plainly l)) (a BLOCK ∷ row 45 ∷ []) ∷ []) h₂ t₂ (many (i .start) (n₂ .end) (1 + n₂ .children) (some (i .word))) 0 8
+          pub filter-listed : Going Declared (at (counts (plainly l)) (a BLOCK ∷ row kinds.FILTER ∷ []) ∷ []) h₂ t₂ (many (startOf i) (n₂ .end) (1 + n₂ .children) (some (wordOf i))) 0 8
           filter-listed = with-params declaration-filter-on tt m b u₁ e₁ u₂ e₂
 
           module _ {r₃ : Read} {t₃ : List ℕ} (u₃ : Answers (the s (counts (plainly l)) BLOCK h₂ t₂) 1 r₃ t₃) where
@@ -210,17 +211,17 @@ module _ (s : List ℕ) (l : Limits) (i : Here) (t₀ : List ℕ) (g : Stands s 
             unfolding inside
             filter-no-block e = relays filter-listed refl u₃ e
 
-            pub filter-read : {n₃ : Node} {h₃ : Here} {x : ℕ} {r : Read} {t : List ℕ} → r₃ ≡ Done n₃ h₃ → x ≡ detail-for 45 (i .word) → (r ≡ Done (nodeOf (filterRow (i .start) (n₃ .end) (n₂ .children) x)) (later h₃)) × (t ≡ putRow t₃ (h₃ .rows) (filterRow (i .start) (n₃ .end) (n₂ .children) x)) → Answers Declared 1 r t
+            pub filter-read : {n₃ : Node} {h₃ : Here} {x : ℕ} {r : Read} {t : List ℕ} → r₃ ≡ Done n₃ h₃ → x ≡ detail-for kinds.FILTER (wordOf i) → (r ≡ Done (nodeOf (filterRow (startOf i) (n₃ .end) (n₂ .children) x)) (later h₃)) × (t ≡ putRow t₃ (h₃ .rows) (filterRow (startOf i) (n₃ .end) (n₂ .children) x)) → Answers Declared 1 r t
             unfolding inside
-            filter-read {n₃} {x = x} e₃ e p = done (p .0) (ends (out (writes (fewer 2 (omega arith) (reads-one filter-listed refl refl (whole-of u₃ e₃))) refl refl (ap (filterRow (i .start) (n₃ .end) (n₂ .children)) e ∙ ap (λ (k : ℕ). record { kind = 45; start = i .start; end = n₃ .end; children = k; value = 0; detail = detail-for 45 (i .word) }) (omega arith)) refl (p .1))) refl refl refl)
+            filter-read {n₃} {x = x} e₃ e p = done (p .0) (ends (out (writes (fewer 2 (omega arith) (reads-one filter-listed refl refl (whole-of u₃ e₃))) refl refl (ap (filterRow (startOf i) (n₃ .end) (n₂ .children)) e ∙ ap (λ (k : ℕ). record { kind = kinds.FILTER; start = startOf i; end = n₃ .end; children = k; value = 0; detail = detail-for kinds.FILTER (wordOf i) }) (omega arith)) refl (p .1))) refl refl refl)
 
   -- `test name block`
-  module _ (m : i .word ≡ 80) {j : Here} (b : j ≡ passed s i) {r₁ : Read} {t₁ : List ℕ} (u₁ : Anyhow s NAME j t₀ 3 r₁ t₁) where
+  module _ (m : wordOf i ≡ 80) {j : Here} (b : j ≡ passed s i) {r₁ : Read} {t₁ : List ℕ} (u₁ : Anyhow s NAME j t₀ 3 r₁ t₁) where
     pub test-unnamed : {e : Refusal} → r₁ ≡ Refused e → Answers Declared 1 r₁ t₁
     test-unnamed e = unnamed declaration-test-on tt (is-word m) b u₁ e
 
     module _ {n₁ : Node} {h₁ : Here} (e₁ : r₁ ≡ Done n₁ h₁) where
-      pub test-named : Going Declared (at (counts (plainly l)) (a BLOCK ∷ row 42 ∷ []) ∷ []) h₁ t₁ (many (i .start) (n₁ .end) 1 (some (i .word))) 0 7
+      pub test-named : Going Declared (at (counts (plainly l)) (a BLOCK ∷ row kinds.TEST ∷ []) ∷ []) h₁ t₁ (many (startOf i) (n₁ .end) 1 (some (wordOf i))) 0 7
       test-named = named declaration-test-on tt (is-word m) b u₁ e₁
 
       module _ {r₂ : Read} {t₂ : List ℕ} (u₂ : Answers (the s (counts (plainly l)) BLOCK h₁ t₁) 1 r₂ t₂) where
@@ -228,12 +229,12 @@ module _ (s : List ℕ) (l : Limits) (i : Here) (t₀ : List ℕ) (g : Stands s 
         unfolding inside
         test-no-block e = relays test-named refl u₂ e
 
-        pub test-read : {n₂ : Node} {h₂ : Here} {x : Row} {r : Read} {t : List ℕ} → r₂ ≡ Done n₂ h₂ → x ≡ plainRow 42 (i .start) (n₂ .end) 2 → (r ≡ Done (nodeOf x) (later h₂)) × (t ≡ putRow t₂ (h₂ .rows) x) → Answers Declared 1 r t
+        pub test-read : {n₂ : Node} {h₂ : Here} {x : Row} {r : Read} {t : List ℕ} → r₂ ≡ Done n₂ h₂ → x ≡ plainRow kinds.TEST (startOf i) (n₂ .end) 2 → (r ≡ Done (nodeOf x) (later h₂)) × (t ≡ putRow t₂ (h₂ .rows) x) → Answers Declared 1 r t
         unfolding inside
         test-read e₂ e p = done (p .0) (ends (out (writes (fewer 2 (omega arith) (reads-one test-named refl refl (whole-of u₂ e₂))) refl refl e refl (p .1))) refl refl refl)
 
   -- an import; none of them
-  pub declared-import : {r : Read} {t : List ℕ} → i .word ≡ 70 → Answers (the s (counts l) IMPORT i t₀) 1 r t → Answers Declared 1 r t
+  pub declared-import : {r : Read} {t : List ℕ} → wordOf i ≡ 70 → Answers (the s (counts l) IMPORT i t₀) 1 r t → Answers Declared 1 r t
   unfolding inside
   declared-import {r} {t} m u = go r u
     where
@@ -241,5 +242,5 @@ module _ (s : List ℕ) (l : Limits) (i : Here) (t₀ : List ℕ) (g : Stands s 
       go (Done n h) u = done refl (ends (out (reads-one (begins-on declaration-import-on g (is-word m)) refl refl (u .is))) refl refl refl)
       go (Refused e) u = relays (begins-on declaration-import-on g (is-word m)) refl u refl
 
-  pub undeclared : {r : Read} → (T (one-of (i .word) declarationFirsts) → ⊥) → r ≡ unused i → Answers Declared 1 r t₀
+  pub undeclared : {r : Read} → (T (one-of (wordOf i) declarationFirsts) → ⊥) → r ≡ unused i → Answers Declared 1 r t₀
   undeclared n e = none-fits declaration-off g n e

@@ -1,18 +1,19 @@
 -- `if`, `while`, `for` and `match`: their heads, and what stands behind an `if`.
 use mathlib.Core.Path.{_≡_, refl, sym, ap, subst, _∙_}
 use mathlib.Core.List.{List, [], _∷_}
-use mathlib.Core.Bool.{false, _&&_}
+use mathlib.Core.Bool.{false, _&&_, Bool}
 use mathlib.Core.Option.{some}
 use mathlib.Core.Logic.{_⊎_, inl, inr, _≢_}
 use Prim.Native.Nat.{ℕ, _+_, _≤_, _<_}
-use lib.Dec.{T, eqb, ltb, lt→ltb, ltb→lt, not-T, eqb→eq}
+use lib.Dec.{T, eqb, ltb, ltb→lt, not-T, eqb→eq}
 use native.Mathlib.Omega.{arith}
+use Rattle.rows.specs.Kinds as kinds
 use Rattle.tokens.specs.declared.Refusal.{Refusal}
 use Rattle.rows.specs.declared.Row.{Row}
 use Rattle.rows.specs.Rows.{putRow}
 use Rattle.grammar.specs.Words.{open-brace, close-brace, 'in', four-words}
 use Rattle.grammar.specs.Grammar.{plain, is-head, is-else-if, opens-bracket, body, Scope, Symbol, phrase, one-of}
-use Rattle.grammar.specs.Limits.{Counts, after, inside, kept}
+use Rattle.grammar.specs.Limits.{zeros, Counts, after, inside, kept}
 use Rattle.grammar.specs.Table.{a, behind, closes, head, word, row, opens, rest-kinds, literal-row}
 use Rattle.grammar.specs.Kinds.{no-records, NAME, BLOCK, FOUR, ELSE, ELSE-PART, ELSE-IF, ARMS, EXPR}
 use Rattle.grammar.proofs.Bools.{and-l, and-r, both, or-cases}
@@ -22,16 +23,16 @@ use Rattle.parser.specs.declared.Limits.{Limits}
 use Rattle.parser.specs.declared.Node.{Node}
 use Rattle.parser.specs.declared.Read.{Read}
 use Rattle.parser.specs.declared.Read.the-variants.{Done, Refused}
-use Rattle.parser.specs.Places.{passed, later, unused, refusalAt, nodeOf, plainRow, expected, under, opening}
-use Rattle.parser.specs.Counted.{counts, headed, chained, unchained, opened, plain as plainly, Alike}
+use Rattle.parser.specs.Places.{wordOf, startOf, endOf, nextOf, passed, later, unused, refusalAt, nodeOf, plainRow, expected, under, opening}
+use Rattle.parser.specs.Counted.{counts, headed, chained, unchained, opened, plain as plainly, Alike, used}
 use Rattle.parser.specs.Going.{Stands, Tally, bare, many, withNode, rowOver, Phrase, Going, Stopped, Answers}
-use Rattle.parser.proofs.Standing.{solid, past-word, is-word, the-word}
+use Rattle.parser.proofs.Standing.{solid, past-word, is-word, the-word, lexed, lexed-solid}
 use Rattle.parser.proofs.Going.{at, takes, out, reads-one, refuses-in, refuses-past, whole-of, stopped-of, stopped, fewer}
 use Rattle.parser.proofs.Picks.{On, begins-on, begins-any, into-on, into-off, refuses-off}
-use Rattle.parser.proofs.Steps.{expected-done, under-done, under-refused, counts-plain, counts-headed, counts-body, counts-chained, counts-chain-body, counts-same, counts-opened, alike-counts, expects, misses, opens-on, opens-off, opening-done}
-use Rattle.promises.specs.Promises.{the, Anyhow, Partly, Headed, afterMatch, Tested, Elsed, Matched}
+use Rattle.parser.proofs.Steps.{expected-done, under-done, under-refused, counts-plain, counts-headed, counts-body, counts-chained, counts-chain-body, counts-same, counts-opened, alike-counts, expects, misses, opens-on, opens-off, opening-done, few-used, all-used}
+use Rattle.promises.specs.Promises.{the, Anyhow, Partly, Headed, afterMatch, Tested, Elsed, Matched, NamedIn}
 use Rattle.promises.proofs.Alternatives.{four-if-on, four-match-on, four-while-on, four-for-on, else-on, else-off, elses-block-on, elses-off, else-if-any, else-if-is}
-use Rattle.promises.proofs.Answered.{of-text, not-first, finished}
+use Rattle.promises.proofs.Answered.{further, not-both, of-text, not-first, finished}
 use Rattle.promises.proofs.Partly.{partly, partly-of, stops-answer, partly-stops}
 
 -- a phrase in it, by the answer of its reader
@@ -51,17 +52,17 @@ reads-partly {f} {s} {d} {d′} {ks} {h} {t} {t′} {y} {v} {k} {ss} {n = n} {j 
     go (Refused x) u = partly-stops refl (refuses-it q e u g refl)
 
 -- the counts behind a plain token
-pub counts-behind : {d : Counts} {l l′ : Limits} → d ≡ counts l → l′ ≡ plainly l → after plain d ≡ counts l′
-counts-behind {l = l} e p = ap (after plain) e ∙ counts-plain l ∙ ap counts (sym p)
+pub counts-behind : (l : Limits) {d : Counts} {l′ : Limits} → d ≡ counts l → l′ ≡ plainly l → after plain d ≡ counts l′
+counts-behind l e p = ap (after plain) e ∙ counts-plain l ∙ ap counts (sym p)
 
 -- where the reader stands behind a head's word, and behind a bracket
-pub under-past : (w n : ℕ) {s : List ℕ} {h : Here} {r : Read} {m : Node} {z : Here} → Stands s h → T (solid (w ∷ [])) → h .word ≡ w → r ≡ under s h n → r ≡ Done m z → Stands s z × (h .next < z .next)
+pub under-past : (w n : ℕ) {s : List ℕ} {h : Here} {r : Read} {m : Node} {z : Here} → Stands s h → T (solid (w ∷ [])) → wordOf h ≡ w → r ≡ under s h n → r ≡ Done m z → Stands s z × (nextOf h < nextOf z)
 under-past w n {s} {h} g o e u q = let k = past-word (w ∷ []) g o (is-word e) (under-done s h n u q .1 .here) in (k .0, k .1)
 
-pub expected-past : (w : ℕ) {s : List ℕ} {h : Here} {r : Read} {m : Node} {z : Here} → Stands s h → T (solid (w ∷ [])) → r ≡ expected s h w → r ≡ Done m z → Stands s z × (h .next < z .next)
+pub expected-past : (w : ℕ) {s : List ℕ} {h : Here} {r : Read} {m : Node} {z : Here} → Stands s h → T (solid (w ∷ [])) → r ≡ expected s h w → r ≡ Done m z → Stands s z × (nextOf h < nextOf z)
 expected-past w {s} {h} g o u q = let x = expected-done s h w u q in let k = past-word (w ∷ []) g o (is-word (x .0)) (x .1 .here) in (k .0, k .1)
 
-pub opening-past : (w n : ℕ) {s : List ℕ} {h : Here} {r : Read} {m : Node} {z : Here} → Stands s h → T (solid (w ∷ [])) → r ≡ opening s h w n → r ≡ Done m z → Stands s z × (h .next < z .next)
+pub opening-past : (w n : ℕ) {s : List ℕ} {h : Here} {r : Read} {m : Node} {z : Here} → Stands s h → T (solid (w ∷ [])) → r ≡ opening s h w n → r ≡ Done m z → Stands s z × (nextOf h < nextOf z)
 opening-past w n {s} {h} g o u q = let x = opening-done s h w n u q in let k = past-word (w ∷ []) g o (is-word (x .0)) (x .2 .here) in (k .0, k .1)
 
 -- behind a head, with c rows: the counts of its expr and of its body
@@ -74,30 +75,30 @@ pub record Head (f : Phrase) (l : Limits) (ss : List Symbol) (h : Here) (t : Lis
   pub going : Going f (at at-counts ss ∷ []) h t (many start end c (some sign)) 0 4
 
 -- the word of a head: 32 at most are open, or it is refused
-module _ {s : List ℕ} {h : Here} {t : List ℕ} {l l′ : Limits} (g : Stands s h) (p : l′ ≡ unchained l) {r : Read} (u : r ≡ under s h (l′ .heads)) where
-  module _ {w : ℕ} {ss : List Symbol} (o : On FOUR (some (head w ∷ ss)) (w ∷ [])) (z : T (solid (w ∷ []))) (e : h .word ≡ w) where
+module _ (l : Limits) {s : List ℕ} {h : Here} {t : List ℕ} {l′ : Limits} (g : Stands s h) (p : l′ ≡ unchained l) {r : Read} (u : r ≡ under s h (l′ .heads)) where
+  module _ {w : ℕ} {ss : List Symbol} (o : On FOUR (some (head w ∷ ss)) (w ∷ [])) (z : T (lexed (w ∷ []))) (e : wordOf h ≡ w) where
     pub head-on : {m : Node} {i : Here} → r ≡ Done m i → Head (the s (counts l) FOUR h t) l′ ss i t (m .start) 0
-    unfolding kept
+    unfolding kept counts
     head-on {m} {i} q =
         let k = under-done s h (l′ .heads) u q in
         let b = k .0 in
         let c : l′ .heads ≡ l .heads = ap (λ (x : Limits). x .heads) p in
-        let small : l .heads < 32 = omega (arith, b, c) in
+        let small : 0 < l .heads = omega (arith, b, c) in
         record {
           at-counts = after is-head (counts l);
-          end = h .end;
-          sign = h .word;
+          end = endOf h;
+          sign = wordOf h;
           headed-so = counts-headed l small ∙ ap (λ (x : Limits). counts (headed x)) (sym p);
           body-so = counts-body l ∙ ap counts (sym p);
-          going = subst (λ (x : Node). Going (the s (counts l) FOUR h t) (at (after is-head (counts l)) ss ∷ []) i t (many (x .start) (h .end) 0 (some (h .word))) 0 4) (k .1 .node) (takes (begins-on o g (is-word e)) z (is-word e) (lt→ltb (l .heads) 32 small) (k .1 .here));
+          going = subst (λ (x : Node). Going (the s (counts l) FOUR h t) (at (after is-head (counts l)) ss ∷ []) i t (many (x .start) (endOf h) 0 (some (wordOf h))) 0 4) (k .1 .node) (takes (begins-on o g (is-word e)) (lexed-solid (w ∷ []) z) (is-word e) (few-used (l .heads) small) (k .1 .here));
         }
 
     pub head-off : {x : Refusal} → r ≡ Refused x → Answers (the s (counts l) FOUR h t) 1 r t
-    unfolding kept
+    unfolding kept counts
     head-off q =
-        let k = under-refused s h (l′ .heads) u q in
+        let k = under-refused s h (l′ .heads) (w ∷ []) z (is-word e) u q in
         let c : l′ .heads ≡ l .heads = ap (λ (x : Limits). x .heads) p in
-        stopped q (subst (λ (y : Refusal). Stopped (the s (counts l) FOUR h t) y t) (k .1) (refuses-past (begins-on o g (is-word e)) z (is-word e) (not-T (ltb (l .heads) 32) (λ y. k .0 (let b = ltb→lt (l .heads) 32 y in omega (arith, b, c))))))
+        stopped q (subst (λ (y : Refusal). Stopped (the s (counts l) FOUR h t) y t) (k .1) (refuses-past (begins-on o g (is-word e)) (lexed-solid (w ∷ []) z) (is-word e) (all-used (l .heads) (sym c ∙ k .0))))
 
 -- the expr behind a head
 module _ {f : Phrase} {s : List ℕ} {d d′ : Counts} {ss : List Symbol} {h : Here} {t t′ : List ℕ} {x e c w k : ℕ} {r : Read} (q : f .text ≡ s) (z : d ≡ d′) (g : Going f (at d (a (EXPR no-records) ∷ ss) ∷ []) h t (many x e c (some w)) 0 k) (u : Answers (the s d′ (EXPR no-records) h t) 1 r t′) where
@@ -110,7 +111,7 @@ module _ {f : Phrase} {s : List ℕ} {d d′ : Counts} {ss : List Symbol} {h : H
   head-expr-stops y = stopped y (refuses-it q z u g y)
 
 -- `expr block`
-module _ {s : List ℕ} {i : Here} {t₀ : List ℕ} {l l′ : Limits} {r₁ : Read} {t₁ : List ℕ} (p : l′ ≡ headed l) (u₁ : Answers (the s (counts l′) (EXPR no-records) i t₀) 1 r₁ t₁) where
+module _ (l : Limits) {s : List ℕ} {i : Here} {t₀ : List ℕ} {l′ : Limits} {r₁ : Read} {t₁ : List ℕ} (p : l′ ≡ headed l) (u₁ : Answers (the s (counts l′) (EXPR no-records) i t₀) 1 r₁ t₁) where
   pub test-fails : {y : Refusal} → r₁ ≡ Refused y → Tested s i t₀ l r₁ t₁
   unfolding inside
   test-fails e₁ f d ss x e c w k q z b g = partly-stops e₁ (refuses-it q (z ∙ ap counts (sym p)) u₁ g e₁)
@@ -138,53 +139,57 @@ which-four x m = elim (or-cases (eqb x 69) (one-of x (73 ∷ 81 ∷ 67 ∷ [])) 
   ])
 ]
 
-pub last-four : (x : ℕ) → T (one-of x four-words) → x ≢ 69 → x ≢ 81 → x ≢ 67 → x ≡ 73
-last-four x m i w f = go (which-four x m)
+pub last-four : (x : ℕ) → T (one-of x four-words) → x ≢ 69 → x ≢ 73 → x ≢ 81 → x ≡ 67
+last-four x m i f w = go (which-four x m)
   where
-    go : (x ≡ 69) ⊎ ((x ≡ 73) ⊎ ((x ≡ 81) ⊎ (x ≡ 67))) → x ≡ 73
+    go : (x ≡ 69) ⊎ ((x ≡ 73) ⊎ ((x ≡ 81) ⊎ (x ≡ 67))) → x ≡ 67
     go (inl e) = absurd (i e)
-    go (inr (inl e)) = e
+    go (inr (inl e)) = absurd (f e)
     go (inr (inr (inl e))) = absurd (w e)
-    go (inr (inr (inr e))) = absurd (f e)
+    go (inr (inr (inr e))) = e
 
-pub four-deep : {s : List ℕ} {h : Here} {t : List ℕ} {l l′ : Limits} {r : Read} {x : Refusal} → Stands s h → T (one-of (h .word) four-words) → l′ ≡ unchained l → r ≡ under s h (l′ .heads) → r ≡ Refused x → Answers (the s (counts l) FOUR h t) 1 r t
-four-deep {s} {h} {t} {l} {r = r} g m p u q = go (which-four (h .word) m)
+pub four-deep : (l : Limits) {s : List ℕ} {h : Here} {t : List ℕ} {l′ : Limits} {r : Read} {x : Refusal} → Stands s h → T (one-of (wordOf h) four-words) → l′ ≡ unchained l → r ≡ under s h (l′ .heads) → r ≡ Refused x → Answers (the s (counts l) FOUR h t) 1 r t
+four-deep l {s} {h} {t} {r = r} g m p u q = go (which-four (wordOf h) m)
   where
-    go : (h .word ≡ 69) ⊎ ((h .word ≡ 73) ⊎ ((h .word ≡ 81) ⊎ (h .word ≡ 67))) → Answers (the s (counts l) FOUR h t) 1 r t
-    go (inl e) = head-off g p u four-if-on tt e q
-    go (inr (inl e)) = head-off g p u four-match-on tt e q
-    go (inr (inr (inl e))) = head-off g p u four-while-on tt e q
-    go (inr (inr (inr e))) = head-off g p u four-for-on tt e q
+    go : (wordOf h ≡ 69) ⊎ ((wordOf h ≡ 73) ⊎ ((wordOf h ≡ 81) ⊎ (wordOf h ≡ 67))) → Answers (the s (counts l) FOUR h t) 1 r t
+    go (inl e) = head-off l g p u four-if-on tt e q
+    go (inr (inl e)) = head-off l g p u four-match-on tt e q
+    go (inr (inr (inl e))) = head-off l g p u four-while-on tt e q
+    go (inr (inr (inr e))) = head-off l g p u four-for-on tt e q
 
-pub four-past : (n : ℕ) {s : List ℕ} {h : Here} {r : Read} {m : Node} {z : Here} → Stands s h → T (one-of (h .word) four-words) → r ≡ under s h n → r ≡ Done m z → Stands s z × (h .next < z .next)
+pub four-past : (n : ℕ) {s : List ℕ} {h : Here} {r : Read} {m : Node} {z : Here} → Stands s h → T (one-of (wordOf h) four-words) → r ≡ under s h n → r ≡ Done m z → Stands s z × (nextOf h < nextOf z)
 four-past n {s} {h} g o u q = let k = past-word four-words g tt o (under-done s h n u q .1 .here) in (k .0, k .1)
 
-module _ {s : List ℕ} {h : Here} {t : List ℕ} {l : Limits} (g : Stands s h) (e : h .word ≡ 69) where
+module _ (l : Limits) {s : List ℕ} {h : Here} {t : List ℕ} (g : Stands s h) (e : wordOf h ≡ 69) where
   else-if-begins : Going (the s (counts l) ELSE-IF h t) (at (counts l) else-if-is ∷ []) h t bare 0 0
   else-if-begins = begins-any else-if-any g
 
-  else-if-full : (l .heads < 32 → l .chain < 32 → ⊥) → Stopped (the s (counts l) ELSE-IF h t) (refusalAt 9 (h .start) (h .end)) t
-  unfolding kept
-  else-if-full n = refuses-past else-if-begins tt (is-word e) (not-T (ltb (l .heads) 32 && ltb (l .chain) 32) (λ y. n (ltb→lt (l .heads) 32 (and-l (ltb (l .heads) 32) (ltb (l .chain) 32) y)) (ltb→lt (l .chain) 32 (and-r (ltb (l .heads) 32) (ltb (l .chain) 32) y))))
+  else-if-full : (0 < l .heads → 0 < l .chain → ⊥) → Stopped (the s (counts l) ELSE-IF h t) (refusalAt 9 (startOf h) (endOf h)) t
+  unfolding kept counts
+  else-if-full n =
+      let b : ℕ → Bool = λ x. ltb (used x) 32 in
+      refuses-past else-if-begins tt (is-word e) (not-T (b (l .heads) && b (l .chain)) (λ y. n (some-used (l .heads) (and-l (b (l .heads)) (b (l .chain)) y)) (some-used (l .chain) (and-r (b (l .heads)) (b (l .chain)) y))))
+    where
+      some-used : (x : ℕ) → T (ltb (used x) 32) → 0 < x
+      some-used x y = let k = ltb→lt (used x) 32 y in omega (arith, k)
 
-  pub else-if-long : {r : Read} → 32 ≤ l .chain → r ≡ Refused (refusalAt 9 (h .start) (h .end)) → Answers (the s (counts l) ELSE-IF h t) 1 r t
-  else-if-long c q = stopped q (else-if-full (λ x y. omega (arith, c, y)))
+  -- with so many left, of which the chain may leave none
+  module _ {n : ℕ} {r : Read} (u : r ≡ under s h n) where
+    pub else-if-deep : {x : Refusal} → (n ≡ 0 → 0 < l .heads → 0 < l .chain → ⊥) → r ≡ Refused x → Answers (the s (counts l) ELSE-IF h t) 1 r t
+    else-if-deep m q = let k = under-refused s h n (69 ∷ []) tt (is-word e) u q in stopped q (subst (λ (y : Refusal). Stopped (the s (counts l) ELSE-IF h t) y t) (k .1) (else-if-full (m (k .0))))
 
   module _ {r : Read} (u : r ≡ under s h (l .heads)) where
-    pub else-if-deep : {x : Refusal} → r ≡ Refused x → Answers (the s (counts l) ELSE-IF h t) 1 r t
-    else-if-deep q = let k = under-refused s h (l .heads) u q in stopped q (subst (λ (y : Refusal). Stopped (the s (counts l) ELSE-IF h t) y t) (k .1) (else-if-full (λ x y. k .0 x)))
-
-    pub else-if-on : {l′ : Limits} {m : Node} {i : Here} → l .chain < 32 → l′ ≡ chained l → r ≡ Done m i → Head (the s (counts l) ELSE-IF h t) l′ (a (EXPR no-records) ∷ behind BLOCK ∷ behind ELSE ∷ row 28 ∷ []) i t (m .start) 0
-    unfolding kept
+    pub else-if-on : {l′ : Limits} {m : Node} {i : Here} → 0 < l .chain → l′ ≡ chained l → r ≡ Done m i → Head (the s (counts l) ELSE-IF h t) l′ (a (EXPR no-records) ∷ behind BLOCK ∷ behind ELSE ∷ row kinds.IF ∷ []) i t (m .start) 0
+    unfolding kept counts
     else-if-on {i = i} c p q =
         let k = under-done s h (l .heads) u q in
         record {
           at-counts = after is-else-if (counts l);
-          end = h .end;
-          sign = h .word;
+          end = endOf h;
+          sign = wordOf h;
           headed-so = counts-chained l (k .0) c ∙ ap (λ (x : Limits). counts (headed x)) (sym p);
           body-so = counts-chain-body l c ∙ ap counts (sym p);
-          going = subst (λ (x : Node). Going (the s (counts l) ELSE-IF h t) (at (after is-else-if (counts l)) (a (EXPR no-records) ∷ behind BLOCK ∷ behind ELSE ∷ row 28 ∷ []) ∷ []) i t (many (x .start) (h .end) 0 (some (h .word))) 0 4) (k .1 .node) (takes else-if-begins tt (is-word e) (both (ltb (l .heads) 32) (ltb (l .chain) 32) (lt→ltb (l .heads) 32 (k .0)) (lt→ltb (l .chain) 32 c)) (k .1 .here));
+          going = subst (λ (x : Node). Going (the s (counts l) ELSE-IF h t) (at (after is-else-if (counts l)) (a (EXPR no-records) ∷ behind BLOCK ∷ behind ELSE ∷ row kinds.IF ∷ []) ∷ []) i t (many (x .start) (endOf h) 0 (some (wordOf h))) 0 4) (k .1 .node) (takes else-if-begins tt (is-word e) (both (ltb (used (l .heads)) 32) (ltb (used (l .chain)) 32) (few-used (l .heads) (k .0)) (few-used (l .chain) c)) (k .1 .here));
         }
 
 -- its expr and block, and its row
@@ -213,18 +218,44 @@ module _ {f : Phrase} {s : List ℕ} {l : Limits} {ss : List Symbol} {h : Here} 
     expects-in = subst (λ (y : List ℕ). r₂ ≡ expected y h₁ 71) (sym q) u₂
 
     pub for-in-fails : {y : Refusal} → r₂ ≡ Refused y → Answers f 1 r₂ t₁
-    for-in-fails e₂ = stopped e₂ (misses 71 for-in expects-in e₂)
+    for-in-fails e₂ = stopped e₂ (misses 71 for-in tt expects-in e₂)
 
-    pub for-on : {m₂ : Node} {h₂ : Here} → l .signs ≡ 0 → r₂ ≡ Done m₂ h₂ → Head f l ss h₂ t₁ x (c + 1)
+    pub for-on : {m₂ : Node} {h₂ : Here} → l .signs ≡ 32 → r₂ ≡ Done m₂ h₂ → Head f l ss h₂ t₁ x (c + 1)
     unfolding after inside
     for-on {m₂} o e₂ = record {
       at-counts = after plain (b .at-counts);
       end = m₂ .end;
       sign = b .sign;
-      headed-so = ap (after plain) (b .headed-so);
+      headed-so = ap (after plain) (b .headed-so) ∙ counts-plain (headed l);
       body-so = ap (after plain) (b .body-so) ∙ counts-same l o;
       going = fewer 4 (omega arith) (expects 71 for-in tt expects-in e₂);
     }
+
+-- the two as their reader tells of them
+module _ {f : Phrase} {s : List ℕ} {l : Limits} {ss : List Symbol} {h : Here} {t : List ℕ} {x c : ℕ} (q : f .text ≡ s) (b : Head f l (a NAME ∷ word 'in' ∷ ss) h t x c) {r : Read} {t₁ : List ℕ} (u : NamedIn s h t r t₁) where
+  pub name-in-fails : {y : Refusal} → r ≡ Refused y → Answers f 1 r t₁
+  name-in-fails {y} e = go (u .first) refl
+    where
+      go : (v : Read) → u .first ≡ v → Answers f 1 r t₁
+      go (Done m z) i = for-in-fails q b (u .name) i (u .goes i) e
+      go (Refused z) i = subst (λ (v : Read). Answers f 1 v t₁) (sym (u .stops i)) (for-name-fails q b (u .name) i)
+
+  pub name-in-on : {m : Node} {z : Here} → l .signs ≡ 32 → r ≡ Done m z → Head f l ss z t₁ x (c + 1)
+  name-in-on {z = z₁} o e = go (u .first) refl
+    where
+      go : (v : Read) → u .first ≡ v → Head f l ss z₁ t₁ x (c + 1)
+      go (Done m z) i = for-on q b (u .name) i (u .goes i) o e
+      go (Refused z) i = not-both e (u .stops i ∙ i)
+
+pub name-in-past : {s : List ℕ} {h : Here} {t : List ℕ} {r : Read} {t₁ : List ℕ} {m : Node} {z : Here} → Stands s h → NamedIn s h t r t₁ → r ≡ Done m z → Stands s z × (nextOf h < nextOf z)
+name-in-past {s} {h} {z = z} g u e = go (u .first) refl
+  where
+    go : (v : Read) → u .first ≡ v → Stands s z × (nextOf h < nextOf z)
+    go (Done m₁ h₁) i =
+        let x = further (u .name zeros) i in
+        let y = expected-past 71 (x .stands) tt (u .goes i) e in
+        (y .0, let a = x .next in let b = y .1 in omega (arith, a, b))
+    go (Refused x) i = not-both e (u .stops i ∙ i)
 
 -- `match expr {`
 module _ {f : Phrase} {s : List ℕ} {l l′ : Limits} {h : Here} {t : List ℕ} {x : ℕ} {r₁ : Read} {t₁ : List ℕ} (q : f .text ≡ s) (p : l′ ≡ headed l) (b : Head f l afterMatch h t x 0) (u₁ : Answers (the s (counts l′) (EXPR no-records) h t) 1 r₁ t₁) where
@@ -232,7 +263,7 @@ module _ {f : Phrase} {s : List ℕ} {l l′ : Limits} {h : Here} {t : List ℕ}
   match-expr-fails e₁ = head-expr-stops q (b .headed-so ∙ ap counts (sym p)) (b .going) u₁ e₁
 
   module _ {m₁ : Node} {h₁ : Here} (e₁ : r₁ ≡ Done m₁ h₁) {r₂ : Read} (u₂ : r₂ ≡ opening s h₁ 40 (l .brackets)) where
-    matches : Going f (at (b .at-counts) (opens open-brace ∷ behind ARMS ∷ closes close-brace ∷ row 31 ∷ []) ∷ []) h₁ t₁ (many x (m₁ .end) 1 (some (b .sign))) 0 5
+    matches : Going f (at (b .at-counts) (opens open-brace ∷ behind ARMS ∷ closes close-brace ∷ row kinds.MATCH ∷ []) ∷ []) h₁ t₁ (many x (m₁ .end) 1 (some (b .sign))) 0 5
     matches = head-expr q (b .headed-so ∙ ap counts (sym p)) (b .going) u₁ e₁
 
     match-alike : Alike (b .at-counts) (headed l)
@@ -249,24 +280,24 @@ module _ {f : Phrase} {s : List ℕ} {l l′ : Limits} {h : Here} {t : List ℕ}
     match-ends e₂ o v = v f (after opens-bracket (b .at-counts)) _ _ q (ap (after opens-bracket) (b .body-so) ∙ counts-opened l (opening-done s h₁ 40 (l .brackets) u₂ e₂ .1) ∙ ap counts (sym o)) (fewer 1 (omega arith) (opens-on 40 (headed l) matches tt match-alike opens-arms e₂))
 
 -- no `else`: the `if` ends
-pub else-none : {f : Phrase} {d : Counts} {h : Here} {t : List ℕ} {x e w k : ℕ} {v : Row} {r : Read} {t′ : List ℕ} → Going f (at d (behind ELSE ∷ row 28 ∷ []) ∷ []) h t (many x e 2 (some w)) 0 k → 2 ≤ k → h .word ≢ 63 → v ≡ plainRow 28 x e 2 → r ≡ Done (nodeOf v) (later h) → t′ ≡ putRow t (h .rows) v → Answers f 1 r t′
+pub else-none : {f : Phrase} {d : Counts} {h : Here} {t : List ℕ} {x e w k : ℕ} {v : Row} {r : Read} {t′ : List ℕ} → Going f (at d (behind ELSE ∷ row kinds.IF ∷ []) ∷ []) h t (many x e 2 (some w)) 0 k → 2 ≤ k → wordOf h ≢ 63 → v ≡ plainRow kinds.IF x e 2 → r ≡ Done (nodeOf v) (later h) → t′ ≡ putRow t (h .rows) v → Answers f 1 r t′
 else-none g j n v r t = finished (out (into-off else-off refl (λ m. n (the-word m)) g)) j refl refl v r t
 
 -- behind `else`
-pub else-word : {f : Phrase} {d : Counts} {l : Limits} {ss : List Symbol} {ks : List Left} {h h₁ : Here} {t : List ℕ} {x i c w v k : ℕ} → inside body d ≡ counts l → l .signs ≡ 0 → h .word ≡ 63 → h₁ ≡ passed (f .text) h → Going f (at d (behind ELSE ∷ ss) ∷ ks) h t (many x i c (some w)) v k → Going f (at (counts l) (a ELSE-PART ∷ []) ∷ at d ss ∷ ks) h₁ t (many x (h .end) c (some w)) v (k + 4)
+pub else-word : (l : Limits) {f : Phrase} {d : Counts} {ss : List Symbol} {ks : List Left} {h h₁ : Here} {t : List ℕ} {x i c w v k : ℕ} → inside body d ≡ counts l → l .signs ≡ 32 → wordOf h ≡ 63 → h₁ ≡ passed (f .text) h → Going f (at d (behind ELSE ∷ ss) ∷ ks) h t (many x i c (some w)) v k → Going f (at (counts l) (a ELSE-PART ∷ []) ∷ at d ss ∷ ks) h₁ t (many x (endOf h) c (some w)) v (k + 4)
 unfolding kept
-else-word {f} {d} {l} {ss} {ks} {h} {h₁} {t} {x} {i} {c} {w} {v} {k} b z e p g =
-    subst (λ (y : Counts). Going f (at y (a ELSE-PART ∷ []) ∷ at d ss ∷ ks) h₁ t (many x (h .end) c (some w)) v (k + 4)) (ap (after plain) b ∙ counts-plain l ∙ ap (λ (n : ℕ). record { brackets = l .brackets; prefixes = n; else-ifs = l .chain; heads = l .heads }) (sym z)) (takes (into-on else-on refl (is-word e) g) tt (is-word e) tt p)
+else-word l {f} {d} {ss} {ks} {h} {h₁} {t} {x} {i} {c} {w} {v} {k} b z e p g =
+    subst (λ (y : Counts). Going f (at y (a ELSE-PART ∷ []) ∷ at d ss ∷ ks) h₁ t (many x (endOf h) c (some w)) v (k + 4)) (ap (after plain) b ∙ counts-same l z) (takes (into-on else-on refl (is-word e) g) tt (is-word e) tt p)
 
 -- the block there
-pub else-fails : {s : List ℕ} {h : Here} {t : List ℕ} {l : Limits} {start : ℕ} {r : Read} → h .word ≢ 69 → h .word ≢ 40 → r ≡ unused h → Elsed s h t l start r t
-else-fails i o u f d e w k q g = stopped u (refuses-off elses-off (not-first _ 69 (40 ∷ []) i (not-first _ 40 [] o (λ y. y))) g)
+pub else-fails : (l : Limits) {s : List ℕ} {h : Here} {t : List ℕ} {start : ℕ} {r : Read} → wordOf h ≢ 69 → wordOf h ≢ 40 → r ≡ unused h → Elsed s h t l start r t
+else-fails l i o u f d e w k q g = stopped u (refuses-off elses-off (not-first _ 69 (40 ∷ []) i (not-first _ 40 [] o (λ y. y))) g)
 
-module _ {s : List ℕ} {h : Here} {t : List ℕ} (i : h .word ≡ 40) {l : Limits} {start : ℕ} {r : Read} {t₁ : List ℕ} (u : Answers (the s (counts l) BLOCK h t) 1 r t₁) where
+module _ (l : Limits) {s : List ℕ} {h : Here} {t : List ℕ} (i : wordOf h ≡ 40) {start : ℕ} {r : Read} {t₁ : List ℕ} (u : Answers (the s (counts l) BLOCK h t) 1 r t₁) where
   pub else-block-fails : {y : Refusal} → r ≡ Refused y → Elsed s h t l start r t₁
   unfolding inside
   else-block-fails j f d e w k q g = stopped j (refuses-it q refl u (into-on elses-block-on refl (is-word i) g) j)
 
-  pub else-ends : {m : Node} {j : Here} {v : Row} {r₁ : Read} {t₂ : List ℕ} → r ≡ Done m j → v ≡ plainRow 28 start (m .end) 3 → r₁ ≡ Done (nodeOf v) (later j) → t₂ ≡ putRow t₁ (j .rows) v → Elsed s h t l start r₁ t₂
+  pub else-ends : {m : Node} {j : Here} {v : Row} {r₁ : Read} {t₂ : List ℕ} → r ≡ Done m j → v ≡ plainRow kinds.IF start (m .end) 3 → r₁ ≡ Done (nodeOf v) (later j) → t₂ ≡ putRow t₁ (j .rows) v → Elsed s h t l start r₁ t₂
   unfolding inside
   else-ends p v o y f d e w k q g = finished (out (out (reads-it q refl u (into-on elses-block-on refl (is-word i) g) refl p))) (omega arith) refl refl v o y

@@ -11,6 +11,7 @@ pub mod Imports
 pub mod Declarations
 pub mod Wholes
 pub mod Exprs
+pub mod Levels
 pub mod Operands
 pub mod Spelled
 pub mod Heads

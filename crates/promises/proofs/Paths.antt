@@ -6,6 +6,7 @@ use Prim.Native.Nat.{ℕ, _+_, _≤_, _<_}
 use lib.Dec.{T}
 use lib.ListN.{length}
 use native.Mathlib.Omega.{arith}
+use Rattle.rows.specs.Kinds as kinds
 use Rattle.tokens.specs.declared.Refusal.{Refusal}
 use Rattle.rows.specs.declared.Row.{Row}
 use Rattle.rows.specs.Rows.{putRow}
@@ -19,7 +20,7 @@ use Rattle.parser.specs.declared.Here.{Here}
 use Rattle.parser.specs.declared.Node.{Node}
 use Rattle.parser.specs.declared.Read.{Read}
 use Rattle.parser.specs.declared.Read.the-variants.{Done, Refused}
-use Rattle.parser.specs.Places.{passed, later, unused, nodeOf, plainRow}
+use Rattle.parser.specs.Places.{wordOf, endOf, nextOf, passed, later, unused, nodeOf, plainRow}
 use Rattle.parser.specs.Going.{Stands, many, Phrase, Going, Answers}
 use Rattle.parser.proofs.Standing.{here-rows, next-small, solid, past-word, is-word, the-word}
 use Rattle.parser.proofs.Going.{at, takes, out, last, alone, writes, reads-one, ends, refuses-word, done, stopped, whole-of, relays, as-many, fewer}
@@ -30,16 +31,16 @@ use Rattle.promises.proofs.Answered.{further}
 use Rattle.promises.proofs.Alternatives.{path-any, path-rest-on, path-rest-off}
 
 -- a token that is a row of kind 1, whatever the kind and its words
-module _ {n : ℕ} {w : List ℕ} (p : Off n (some (one w ∷ row 1 ∷ [])) []) (s : List ℕ) (d : Counts) (h : Here) (t : List ℕ) (g : Stands s h) where
-  pub item-read : {r : Read} {t′ : List ℕ} → T (solid w) → T (one-of (h .word) w) → r ≡ wrote s h (itemRow h) → t′ ≡ putRow t (h .rows) (itemRow h) → Answers (the s d n h t) 3 r t′
+module _ {n : ℕ} {w : List ℕ} (p : Off n (some (one w ∷ row kinds.NAME ∷ [])) []) (s : List ℕ) (d : Counts) (h : Here) (t : List ℕ) (g : Stands s h) where
+  pub item-read : {r : Read} {t′ : List ℕ} → T (solid w) → T (one-of (wordOf h) w) → r ≡ wrote s h (itemRow h) → t′ ≡ putRow t (h .rows) (itemRow h) → Answers (the s d n h t) 3 r t′
   unfolding kept
-  item-read o m e q = done e (ends (out (writes (takes (begins-any p g) o m tt refl) refl refl refl refl (q ∙ ap (λ (n : ℕ). putRow t n (itemRow h)) (sym (here-rows s (h .next) (h .rows)))))) refl refl refl)
+  item-read o m e q = done e (ends (out (writes (takes (begins-any p g) o m tt refl) refl refl refl refl (q ∙ ap (λ (n : ℕ). putRow t n (itemRow h)) (sym (here-rows s (nextOf h) (h .rows)))))) refl refl refl)
 
-  pub item-refused : {r : Read} → (T (one-of (h .word) w) → ⊥) → r ≡ unused h → Answers (the s d n h t) 3 r t
+  pub item-refused : {r : Read} → (T (one-of (wordOf h) w) → ⊥) → r ≡ unused h → Answers (the s d n h t) 3 r t
   item-refused m e = stopped e (refuses-word (begins-any p g) m)
 
 abbrev pathRow : ℕ → ℕ → ℕ → Row
-pathRow a e c = plainRow 2 a e c
+pathRow a e c = plainRow kinds.PATH a e c
 
 abbrev item-symbol : Symbol
 item-symbol = a PATH-ITEM
@@ -51,7 +52,7 @@ rest-symbol = a PATH-REST
 pub record Begun (f : Phrase) (start end children : ℕ) (h : Here) (t : List ℕ) : Type 0 where
   pub counts : Counts
   pub sign : Option ℕ
-  pub going : Going f (at counts (a PATH-REST ∷ []) ∷ at (f .counts) (row 2 ∷ []) ∷ []) h t (many start end children sign) 0 3
+  pub going : Going f (at counts (a PATH-REST ∷ []) ∷ at (f .counts) (row kinds.PATH ∷ []) ∷ []) h t (many start end children sign) 0 3
 
 module _ (s : List ℕ) (i : Here) (t₀ : List ℕ) (d : Counts) where
   abbrev Path : Phrase
@@ -67,21 +68,21 @@ module _ (s : List ℕ) (i : Here) (t₀ : List ℕ) (d : Counts) where
     path-refused e = relays (begins-any path-any g) refl (u d) e
 
   module _ {a e c : ℕ} {h : Here} {t : List ℕ} (b : Begun Path a e c h t) where
-    module _ {h′ : Here} (m : h .word ≡ 49) (p : h′ ≡ passed s h) where
-      behind : Going Path (at (after plain (b .counts)) (item-symbol ∷ rest-symbol ∷ []) ∷ at (b .counts) [] ∷ at d (row 2 ∷ []) ∷ []) h′ t (many a (h .end) c (or-word (b .sign) (h .word))) 0 7
+    module _ {h′ : Here} (m : wordOf h ≡ 49) (p : h′ ≡ passed s h) where
+      behind : Going Path (at (after plain (b .counts)) (item-symbol ∷ rest-symbol ∷ []) ∷ at (b .counts) [] ∷ at d (row kinds.PATH ∷ []) ∷ []) h′ t (many a (endOf h) c (or-word (b .sign) (wordOf h))) 0 7
       unfolding inside kept
       behind = takes (into-on path-rest-on refl (is-word m) (b .going)) tt (is-word m) tt p
 
       pub path-more : {r : Read} {t′ : List ℕ} {x : Node} {z : Here} → Anyhow s PATH-ITEM h′ t 3 r t′ → r ≡ Done x z → Begun Path a (x .end) (c + 1) z t′
       unfolding inside
-      path-more u q = record { counts = after plain (b .counts); sign = or-word (b .sign) (h .word); going = fewer 3 (omega arith) (last (reads-one behind refl refl (whole-of (u (after plain (b .counts))) q))) }
+      path-more u q = record { counts = after plain (b .counts); sign = or-word (b .sign) (wordOf h); going = fewer 3 (omega arith) (last (reads-one behind refl refl (whole-of (u (after plain (b .counts))) q))) }
 
       pub path-fails : {r : Read} {t′ : List ℕ} {x : Refusal} → Anyhow s PATH-ITEM h′ t 3 r t′ → r ≡ Refused x → Answers Path 2 r t′
       unfolding inside
       path-fails u q = relays behind refl (u (after plain (b .counts))) q
 
       -- it went on, and stays within the source
-      pub path-onward : {r : Read} {t′ : List ℕ} {x : Node} {z : Here} → Anyhow s PATH-ITEM h′ t 3 r t′ → r ≡ Done x z → (h .next < z .next) × (z .next ≤ length s + 1)
+      pub path-onward : {r : Read} {t′ : List ℕ} {x : Node} {z : Here} → Anyhow s PATH-ITEM h′ t 3 r t′ → r ≡ Done x z → (nextOf h < nextOf z) × (nextOf z ≤ length s + 1)
       path-onward u q =
           let a = past-word (dot ∷ []) (b .going .stands) tt (is-word m) p in
           let k = further (u d) q in
@@ -89,7 +90,7 @@ module _ (s : List ℕ) (i : Here) (t₀ : List ℕ) (d : Counts) where
           let j = k .next in
           (omega (arith, i, j), next-small (k .stands))
 
-    pub path-ends : {r : Read} {t′ : List ℕ} → (h .word ≡ 49 → ⊥) → r ≡ Done (nodeOf (pathRow a e c)) (later h) → t′ ≡ putRow t (h .rows) (pathRow a e c) → Answers Path 2 r t′
+    pub path-ends : {r : Read} {t′ : List ℕ} → (wordOf h ≡ 49 → ⊥) → r ≡ Done (nodeOf (pathRow a e c)) (later h) → t′ ≡ putRow t (h .rows) (pathRow a e c) → Answers Path 2 r t′
     unfolding inside
     path-ends n q p = done q (ends (out (writes (out (out (into-off path-rest-off refl (λ x. n (the-word x)) (b .going)))) refl refl refl refl p)) refl refl refl)
 
@@ -101,5 +102,5 @@ Goes s a e₀ c₀ h₀ t₀ e c h t = (d : Counts) (i : Here) (t′ : List ℕ)
 pub undotted-refused : {r : Read} {e : Refusal} → r ≡ Refused e → undotted r
 undotted-refused e = subst undotted (sym e) tt
 
-pub undotted-done : {r : Read} {m : Node} {h : Here} → r ≡ Done m h → (h .word ≡ 49 → ⊥) → undotted r
+pub undotted-done : {r : Read} {m : Node} {h : Here} → r ≡ Done m h → (wordOf h ≡ 49 → ⊥) → undotted r
 undotted-done e n = subst undotted (sym e) n

@@ -1,4 +1,6 @@
 -- What is followed without a tally: a literal, whose row its token gives; a whole source.
+use Rattle.rows.specs.Kinds as kinds
+use Rattle.tokens.specs.Words.{codeOf}
 use mathlib.Core.Path.{_≡_, refl, sym, ap, subst, _∙_}
 use mathlib.Core.List.{List, [], _∷_}
 use mathlib.Core.Bool.{Bool, true, false, not}
@@ -9,6 +11,8 @@ use lib.ListN.{length, length-append}
 use lib.Seq.{slice}
 use native.Mathlib.Omega.{arith}
 use Rattle.tokens.specs.declared.Refusal.{Refusal}
+use Rattle.tokens.specs.declared.Cursor.{Cursor}
+use Rattle.tokens.specs.declared.Step.the-variants.{Taken}
 use Rattle.rows.specs.declared.Row.{Row}
 use Rattle.rows.specs.Rows.{putRow}
 use Rattle.values.specs.declared.Literal.{Literal}
@@ -35,8 +39,8 @@ use Rattle.parser.specs.declared.Here.{Here}
 use Rattle.parser.specs.declared.Node.{Node}
 use Rattle.parser.specs.declared.Read.{Read}
 use Rattle.parser.specs.declared.Read.the-variants.{Done, Refused}
-use Rattle.parser.proofs.Laws.{bump-more}
-use Rattle.parser.specs.Places.{bumped, hereAt, unused, passed, later, refusalAt, nodeOf, plainRow}
+use Rattle.parser.proofs.Laws.{bump-more, word-taken, start-taken, end-taken, next-taken}
+use Rattle.parser.specs.Places.{wordOf, startOf, endOf, nextOf, bumped, hereAt, unused, passed, later, refusalAt, nodeOf, plainRow}
 use Rattle.parser.specs.Going.{language, tokenOf, Stands, asRow, store, Tally, bare, lone, many, Holds, withNode, countOf, Phrase, Going, Stopped, Answers}
 use Rattle.parser.proofs.Standing.{here-place, here-rows, says, is-over, not-over, solid-word, is-token, goes-past, more-rows, next-small}
 use Rattle.parser.proofs.Tables.{store-row, store-length}
@@ -46,27 +50,31 @@ use Rattle.promises.specs.Firsts.{declarationFirsts}
 use Rattle.promises.specs.Promises.{the, FinishedIs, Finished}
 use Rattle.promises.proofs.Alternatives.{literal-is, literal-any, tree-any, declarations-on, declarations-off}
 use Rattle.promises.proofs.Answered.{kept-either}
+use Rattle.promises.proofs.Leaves.{row-is as written}
 
 -- a literal: its row is what its token says
-abbrev literalRow : Here → ℕ → ℕ → ℕ → Row
-literalRow h k v d = record { kind = k; start = h .start; end = h .end; children = 0; value = v; detail = d }
+abbrev spanRow : ℕ → ℕ → ℕ → ℕ → ℕ → Row
+spanRow k a e v d = record { kind = k; start = a; end = e; children = 0; value = v; detail = d }
 
-module _ (s : List ℕ) (d : Counts) (h : Here) (t : List ℕ) (g : Stands s h) (o : T (one-of (h .word) literals)) {x : Literal} (p : x ≡ literalOf (h .code) (slice (h .start) (h .end) s)) where
+abbrev literalRow : Here → ℕ → ℕ → ℕ → Row
+literalRow h k v d = spanRow k (startOf h) (endOf h) v d
+
+module _ (s : List ℕ) (d : Counts) (h : Here) (t : List ℕ) (g : Stands s h) (o : T (one-of (wordOf h) literals)) {x : Literal} (p : x ≡ literalOf (codeOf (wordOf h)) (slice (startOf h) (endOf h) s)) where
   abbrev Literally : Phrase
   Literally = the s d LITERAL h t
 
-  pub literal-none : {r : Read} → x ≡ Literal.None → r ≡ Refused (refusalAt 7 (h .start) (h .end)) → Answers Literally 1 r t
+  literal-none : {r : Read} → x ≡ Literal.None → r ≡ Refused (refusalAt 7 (startOf h) (endOf h)) → Answers Literally 1 r t
   unfolding kept
   literal-none n e = stopped e (refuses-past (begins-any literal-any g) tt o (subst (λ (y : Literal). T (not (holds y))) (sym n ∙ p) tt))
 
   module _ {k v e : ℕ} (q : x ≡ Literal.Is k v e) where
     row-is : asRow (literal-of (own (tokenOf s h) ∷ [])) ≡ literalRow h k v e
-    row-is = ap (λ (y : Literal). asRow (literal-of (own (tokenFor (h .word) (h .start) (h .end) y) ∷ []))) (sym p ∙ q)
+    row-is = ap (λ (y : Literal). asRow (literal-of (own (tokenFor (wordOf h) (startOf h) (endOf h) y) ∷ []))) (sym p ∙ q)
 
-    pub literal-read : {z : Here} {r : Read} {t′ : List ℕ} → z ≡ passed s h → (r ≡ Done (nodeOf (literalRow h k v e)) (later z)) × (t′ ≡ putRow t (z .rows) (literalRow h k v e)) → Answers Literally 1 r t′
+    literal-read : {z : Here} {r : Read} {t′ : List ℕ} → z ≡ passed s h → (r ≡ Done (nodeOf (literalRow h k v e)) (later z)) × (t′ ≡ putRow t (z .rows) (literalRow h k v e)) → Answers Literally 1 r t′
     unfolding inside kept take-note row-of store
     literal-read j w =
-        let n = solid-word (h .word) literals tt o in
+        let n = solid-word (wordOf h) literals tt o in
         let b = goes-past g (n .0) (n .1) refl in
         let c = is-token g (n .0) (n .1) in
         let x : Token = tokenOf s h in
@@ -88,6 +96,19 @@ module _ (s : List ℕ) (d : Counts) (h : Here) (t : List ℕ) (g : Stands s h) 
           counted = omega (arith, more, same-rows);
           spares = omega (arith, more, same-rows, next);
         })
+
+-- the same from the token that the literal's step gives
+module _ (s : List ℕ) (d : Counts) (h : Here) (t : List ℕ) (g : Stands s h) (o : T (one-of (wordOf h) literals)) {w a : ℕ} {next : Cursor} (i : h .step ≡ Taken w a next) {n : ℕ} {x : Literal} (c : n ≡ codeOf w) (p : x ≡ literalOf n (slice a (next .at) s)) where
+  token-value : x ≡ literalOf (codeOf (wordOf h)) (slice (startOf h) (endOf h) s)
+  token-value = p ∙ ap (λ (y : ℕ). literalOf y (slice a (next .at) s)) (c ∙ ap codeOf (word-taken i)) ∙ ap (λ (y : ℕ). literalOf (codeOf (wordOf h)) (slice y (next .at) s)) (sym (start-taken i)) ∙ ap (λ (y : ℕ). literalOf (codeOf (wordOf h)) (slice (startOf h) y s)) (sym (end-taken i))
+
+  pub token-none : {r : Read} → x ≡ Literal.None → r ≡ Refused (refusalAt 7 a (next .at)) → Answers (the s d LITERAL h t) 1 r t
+  token-none q e = literal-none s d h t g o token-value q (e ∙ ap (λ (y : ℕ). Refused (refusalAt 7 y (next .at))) (sym (start-taken i)) ∙ ap (λ (y : ℕ). Refused (refusalAt 7 (startOf h) y)) (sym (end-taken i)))
+
+  pub token-read : {k v e : ℕ} {z : Here} {r : Read} {t′ : List ℕ} → x ≡ Literal.Is k v e → z ≡ hereAt s (next .at) (h .rows) → (r ≡ Done (nodeOf (spanRow k a (next .at) v e)) (later z)) × (t′ ≡ putRow t (z .rows) (spanRow k a (next .at) v e)) → Answers (the s d LITERAL h t) 1 r t′
+  token-read {k} {v} {e} {z} q j u =
+      let m : spanRow k a (next .at) v e ≡ literalRow h k v e = ap (λ (y : ℕ). spanRow k y (next .at) v e) (sym (start-taken i)) ∙ ap (λ (y : ℕ). spanRow k (startOf h) y v e) (sym (end-taken i)) in
+      literal-read s d h t g o token-value q (j ∙ ap (λ (y : ℕ). hereAt s y (h .rows)) (sym (next-taken (h .place) i))) (written z t m u)
 
 -- either way the table keeps its length
 pub finished-kept : {tree : Bool} {s t : List ℕ} {r : Read} {t′ : List ℕ} → length s ≤ 65535 → Finished tree s t r t′ → length t′ ≡ length t
@@ -127,10 +148,10 @@ module _ (tree : Bool) (s t : List ℕ) (short : length s ≤ 65535) {i : Here} 
   finished-stops u q = finished-is q (from-first (subst (λ (x : refusals.Refusal). answers.Answers (source s) true tree (length s) (i .place) (refused x)) (u .says) (refused-stops (source s) true tree (length s) (u .stops))), u .kept)
 
   module _ {h : Here} {x : Draft} (u : phrases.Read (source s) language zeros same (goal tree) (i .place) (h .place) x) (g : Stands s h) where
-    pub finished-left : {r : Read} {t′ : List ℕ} → h .word ≢ 0 → r ≡ unused h → length t′ ≡ length t → Finished tree s t r t′
+    pub finished-left : {r : Read} {t′ : List ℕ} → wordOf h ≢ 0 → r ≡ unused h → length t′ ≡ length t → Finished tree s t r t′
     finished-left n q k = finished-is q (from-first (subst (λ (x : refusals.Refusal). answers.Answers (source s) true tree (length s) (i .place) (refused x)) (says g (want []) (λ len x. refl, λ len q. refl)) (read-left (source s) true tree (length s) u (not-over g n))), k)
 
-    pub finished-read : {r : Read} {m : Node} {z : Here} {t′ : List ℕ} → h .word ≡ 0 → r ≡ Done m z → z .rows ≡ length (rows-from tree (length s) x) → t′ ≡ store t 0 (rows-from tree (length s) x) → Finished tree s t r t′
+    pub finished-read : {r : Read} {m : Node} {z : Here} {t′ : List ℕ} → wordOf h ≡ 0 → r ≡ Done m z → z .rows ≡ length (rows-from tree (length s) x) → t′ ≡ store t 0 (rows-from tree (length s) x) → Finished tree s t r t′
     finished-read n q c k = finished-is q (rows-from tree (length s) x, from-first (read-accepted (source s) true tree (length s) u (is-over g n)), c, k)
 
 -- one expression
@@ -139,10 +160,10 @@ module _ (s t : List ℕ) (short : length s ≤ 65535) {i : Here} (b : i ≡ her
   expression-refused e = finished-stops false s t short b (stopped-of u e) e
 
   module _ {m : Node} {h : Here} (e : r ≡ Done m h) where
-    pub expression-left : {r′ : Read} → h .word ≢ 0 → r′ ≡ unused h → Finished false s t r′ t′
+    pub expression-left : {r′ : Read} → wordOf h ≢ 0 → r′ ≡ unused h → Finished false s t r′ t′
     expression-left n q = let w = whole-of u e in finished-left false s t short b (w .read) (w .stands) n q (kept-either u)
 
-    pub expression-read : h .word ≡ 0 → Finished false s t (Done m h) t′
+    pub expression-read : wordOf h ≡ 0 → Finished false s t (Done m h) t′
     unfolding rows-from
     expression-read n = let w = whole-of u e in let z = first-rows s short b in finished-read false s t short b (w .read) (w .stands) n refl (let q = w .rows in omega (arith, z, q)) (w .stored ∙ ap (λ (k : ℕ). store t k (w .draft .rows)) z)
 
@@ -176,21 +197,21 @@ module _ (s t₀ : List ℕ) (short : length s ≤ 65535) {i : Here} (b : i ≡ 
   tree-begins = record { tally = bare; count = refl; going = begins-any tree-any (first-stands s short b) }
 
   module _ {c : ℕ} {h : Here} {t : List ℕ} (x : Declaring (the s zeros TREE i t₀) c h t) where
-    pub tree-few : (c < 300000) × (h .next ≤ 65536)
+    pub tree-few : (c < 300000) × (nextOf h ≤ 65536)
     tree-few = let q = few-rows (x .going) in let y = x .count in (omega arith, omega arith)
 
-    pub tree-refused : {r : Read} {e : Refusal} {t′ : List ℕ} → T (one-of (h .word) declarationFirsts) → Answers (the s zeros DECLARATION h t) 1 r t′ → r ≡ Refused e → Finished true s t₀ r t′
+    pub tree-refused : {r : Read} {e : Refusal} {t′ : List ℕ} → T (one-of (wordOf h) declarationFirsts) → Answers (the s zeros DECLARATION h t) 1 r t′ → r ≡ Refused e → Finished true s t₀ r t′
     unfolding inside
     tree-refused m u e = finished-stops true s t₀ short b (refuses-in (into-on declarations-on refl m (x .going)) refl (stopped-of u e)) e
 
-    module _ (o : T (one-of (h .word) declarationFirsts) → ⊥) where
+    module _ (o : T (one-of (wordOf h) declarationFirsts) → ⊥) where
       tree-over : Going (the s zeros TREE i t₀) [] h t (x .tally) 0 0
       tree-over = out (out (into-off declarations-off refl o (x .going)))
 
-      pub tree-left : {r : Read} → h .word ≢ 0 → r ≡ unused h → Finished true s t₀ r t
+      pub tree-left : {r : Read} → wordOf h ≢ 0 → r ≡ unused h → Finished true s t₀ r t
       tree-left n q = finished-left true s t₀ short b (finish (source s) language (tree-over .opened)) (x .going .stands) n q (kept-length tree-over)
 
-      pub tree-read : {y : Row} {r : Read} {t′ : List ℕ} → h .word ≡ 0 → y ≡ plainRow 43 0 (length s) c → (r ≡ Done (nodeOf y) (later h)) × (t′ ≡ putRow t (h .rows) y) → Finished true s t₀ r t′
+      pub tree-read : {y : Row} {r : Read} {t′ : List ℕ} → wordOf h ≡ 0 → y ≡ plainRow kinds.TREE 0 (length s) c → (r ≡ Done (nodeOf y) (later h)) × (t′ ≡ putRow t (h .rows) y) → Finished true s t₀ r t′
       unfolding rows-from
       tree-read n e p =
           let g = tree-over in
@@ -203,9 +224,9 @@ module _ (s t₀ : List ℕ) (short : length s ≤ 65535) {i : Here} (b : i ≡ 
           let k : grammar.count (d .items) ≡ c = holds-count (x .tally) (d .items) (g .holds) ∙ x .count in
           let at-start : t ≡ store t₀ 0 (d .rows) = g .stored ∙ ap (λ (q : ℕ). store t₀ q (d .rows)) z in
           let rows : h .rows ≡ 0 + length (d .rows) = omega (arith, z, r) in
-          finished-read true s t₀ short b (finish (source s) language (g .opened)) (g .stands) n (p .0) (omega (arith, more, r, z, len)) (p .1 ∙ ap (putRow t (h .rows)) e ∙ ap (λ (q : List ℕ). putRow q (h .rows) (plainRow 43 0 (length s) c)) at-start ∙ ap (λ (q : ℕ). putRow (store t₀ 0 (d .rows)) q (plainRow 43 0 (length s) c)) rows ∙ ap (λ (q : ℕ). putRow (store t₀ 0 (d .rows)) (0 + length (d .rows)) (plainRow 43 0 (length s) q)) (sym k) ∙ sym (store-row t₀ 0 (d .rows) (tree-row (length s) d)))
+          finished-read true s t₀ short b (finish (source s) language (g .opened)) (g .stands) n (p .0) (omega (arith, more, r, z, len)) (p .1 ∙ ap (putRow t (h .rows)) e ∙ ap (λ (q : List ℕ). putRow q (h .rows) (plainRow kinds.TREE 0 (length s) c)) at-start ∙ ap (λ (q : ℕ). putRow (store t₀ 0 (d .rows)) q (plainRow kinds.TREE 0 (length s) c)) rows ∙ ap (λ (q : ℕ). putRow (store t₀ 0 (d .rows)) (0 + length (d .rows)) (plainRow kinds.TREE 0 (length s) q)) (sym k) ∙ sym (store-row t₀ 0 (d .rows) (tree-row (length s) d)))
 
 -- one declaration more
-pub tree-more : {s : List ℕ} {i : Here} {t₀ : List ℕ} {c : ℕ} {h : Here} {t : List ℕ} {r : Read} {m : Node} {z : Here} {t′ : List ℕ} → Declaring (the s zeros TREE i t₀) c h t → T (one-of (h .word) declarationFirsts) → Answers (the s zeros DECLARATION h t) 1 r t′ → r ≡ Done m z → Declaring (the s zeros TREE i t₀) (c + 1) z t′
+pub tree-more : {s : List ℕ} {i : Here} {t₀ : List ℕ} {c : ℕ} {h : Here} {t : List ℕ} {r : Read} {m : Node} {z : Here} {t′ : List ℕ} → Declaring (the s zeros TREE i t₀) c h t → T (one-of (wordOf h) declarationFirsts) → Answers (the s zeros DECLARATION h t) 1 r t′ → r ≡ Done m z → Declaring (the s zeros TREE i t₀) (c + 1) z t′
 unfolding inside
 tree-more {m = m} x o u e = record { tally = withNode (x .tally) m; count = one-node (x .tally) m ∙ ap (λ (n : ℕ). n + 1) (x .count); going = fewer 0 (omega arith) (last (reads-one (into-on declarations-on refl o (x .going)) refl refl (whole-of u e))) }

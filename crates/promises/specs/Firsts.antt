@@ -1,20 +1,22 @@
 -- The words that a choice is made by, and the rows whose detail a word gives.
-use mathlib.Core.Path.{_≡_}
 use mathlib.Core.List.{List, [], _∷_, _++_}
-use mathlib.Core.Bool.{Bool, true, false, not}
+use mathlib.Core.Bool.{Bool, true, false, not, cond}
 use mathlib.Core.Logic.{_≢_}
 use Prim.Native.Nat.{ℕ, _<_}
 use lib.Dec.{eqb}
-use Rattle.chars.specs.Chars.{pick}
+use Rattle.rows.specs.Kinds as kinds
 use Rattle.rows.specs.declared.Row.{Row}
-use Rattle.grammar.specs.Words.{f-quote, open-brace, open-paren, '!', '-', dot, '?', 'import', 'let', 'const', 'fn', 'test', comma, '||', '&&', path-items, literals, four-words, compare-signs, sum-signs, product-signs, return-words, filter-words}
+use Rattle.rows.specs.Rows.{putRow}
+use Rattle.grammar.specs.Words.{f-quote, open-brace, close-brace, open-paren, close-paren, '!', '-', dot, '?', 'import', 'let', 'const', 'fn', 'test', comma, '||', '&&', path-items, literals, four-words, compare-signs, sum-signs, product-signs, return-words, filter-words}
 use Rattle.grammar.specs.Grammar.{one-of}
 use Rattle.grammar.specs.Rows.{detail-for}
 use Rattle.parser.specs.declared.Here.{Here}
 use Rattle.parser.specs.declared.Node.{Node}
 use Rattle.parser.specs.declared.Read.{Read}
 use Rattle.parser.specs.declared.Read.the-variants.{Done, Refused}
-use Rattle.parser.specs.Places.{passed}
+use Rattle.parser.specs.declared.Stmt.{Stmt}
+use Rattle.parser.specs.declared.Arm.{Arm}
+use Rattle.parser.specs.Places.{wordOf, nextOf, passed, later, nodeOf}
 
 -- what an operand, an expr, a type, a statement, a declaration can begin with
 abbrev pub operandFirsts : List ℕ
@@ -41,7 +43,7 @@ postfixSigns = '?' ∷ open-paren ∷ dot ∷ []
 
 -- "Binary, loosest first: `||`; `&&`; `== != < <= > >=`, not chained; `+ -`; `* / %`": its level, 0 for no such sign
 abbrev pub levelOf : ℕ → ℕ
-levelOf w = pick (eqb w '||') 1 (pick (eqb w '&&') 2 (pick (one-of w compare-signs) 3 (pick (one-of w sum-signs) 4 (pick (one-of w product-signs) 5 0))))
+levelOf w = cond (eqb w '||') 1 (cond (eqb w '&&') 2 (cond (one-of w compare-signs) 3 (cond (one-of w sum-signs) 4 (cond (one-of w product-signs) 5 0))))
 
 -- "`return`, `accept`, `reject` take an expr exactly when the next token can begin one"; where no record may stand, always
 abbrev pub endsReturn : ℕ → Bool → Bool
@@ -49,38 +51,56 @@ endsReturn w true = not (one-of w exprFirsts)
 endsReturn w false = false
 
 abbrev pub closingOf : ℕ → ℕ
-closingOf w = pick (eqb w 42) 43 41
+closingOf w = cond (eqb w open-paren) close-paren close-brace
 
 abbrev pub signKind : ℕ → ℕ
-signKind w = pick (eqb w 52) 21 22
+signKind w = cond (eqb w '!') kinds.NOT kinds.NEGATE
 
 -- the row over two nodes with a sign between them; that of a return form
 abbrev pub detailRow : ℕ → Node → Node → ℕ → Row
 detailRow k m n w = record { kind = k; start = m .start; end = n .end; children = 2; value = 0; detail = detail-for k w }
 
 abbrev pub returnRow : ℕ → ℕ → ℕ → ℕ → Row
-returnRow a e c d = record { kind = 27; start = a; end = e; children = c; value = 0; detail = d }
+returnRow a e c d = record { kind = kinds.RETURN; start = a; end = e; children = c; value = 0; detail = d }
 
--- behind an arm: 1 if another may follow
-abbrev pub armEnd : List ℕ → Here → ℕ → Read
-armEnd s h begin =
-    pick (eqb (h .word) comma)
-    (Done (record { kind = 0; start = h .start; end = h .end; children = 1 }) (passed s h))
-    (Done (record { kind = 0; start = h .start; end = h .end; children = pick (eqb begin open-brace) 1 0 }) h)
+-- a sign between two nodes: its row behind the right one, if that was read
+unfoldable pub joinedRead : Node → ℕ → Read → Read
+joinedRead m w (Done n h) = Done (nodeOf (detailRow kinds.BINARY m n w)) (later h)
+joinedRead m w (Refused e) = Refused e
 
--- a node's row is no list
-abbrev pub childless : Read → Type 0
-childless (Done m h) = m .children ≡ 0
-childless (Refused e) = Prim.Unit {0}
+unfoldable pub joinedTable : Node → ℕ → Read → List ℕ → List ℕ
+joinedTable m w (Done n h) t = putRow t (h .rows) (detailRow kinds.BINARY m n w)
+joinedTable m w (Refused e) t = t
+
+-- how tight a sign may bind behind one of a level: comparisons are "not chained"
+abbrev pub looserThan : ℕ → ℕ
+looserThan n = cond (eqb n 3) 2 n
+
+-- a part of a phrase that has so many rows
+abbrev pub partOf : ℕ → Node
+partOf n = record { kind = kinds.NONE; start = 0; end = 0; children = n }
+
+-- a statement behind its `;`; an arm that none may follow
+unfoldable pub endedBy : Read → Stmt
+endedBy (Done m h) = Stmt.Ended h
+endedBy (Refused e) = Stmt.Refused e
+
+unfoldable pub lastArm : Read → Arm
+lastArm (Done m h) = Arm.Last h
+lastArm (Refused e) = Arm.Refused e
+
+-- behind an arm whose body begins with a word: another may follow behind a comma, and behind a block
+abbrev pub armEnd : List ℕ → Here → ℕ → Arm
+armEnd s h begin = cond (eqb (wordOf h) comma) (Arm.Followed (passed s h)) (cond (eqb begin open-brace) (Arm.Followed h) (Arm.Last h))
 
 -- no `.` stands behind what was read
 abbrev pub undotted : Read → Type 0
-undotted (Done m h) = h .word ≢ dot
+undotted (Done m h) = wordOf h ≢ dot
 undotted (Refused e) = Prim.Unit {0}
 
 -- the reader went on
 abbrev pub onward : Here → Read → Type 0
-onward h (Done m z) = h .next < z .next
+onward h (Done m z) = nextOf h < nextOf z
 onward h (Refused e) = Prim.Unit {0}
 
 -- what was read has few rows

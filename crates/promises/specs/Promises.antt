@@ -4,21 +4,21 @@
 -- before, r the answer and t′ the table behind it.
 use mathlib.Core.Path.{_≡_}
 use mathlib.Core.List.{List, [], _∷_}
-use mathlib.Core.Bool.{Bool, true}
+use mathlib.Core.Bool.{Bool, true, cond}
 use mathlib.Core.Option.{Option, some}
 use mathlib.Core.Logic.{_⊎_, _≢_}
 use Prim.Native.Nat.{ℕ, zero, suc, _+_, _≤_, _<_}
-use lib.Dec.{T, ltb}
+use lib.Dec.{T, eqb, ltb}
 use lib.ListN.{length, getD}
+use Rattle.rows.specs.Kinds as kinds
+use Rattle.tokens.specs.declared.Refusal.{Refusal}
 use Rattle.rows.specs.declared.Row.{Row}
 use Rattle.rows.specs.Rows.{putRow}
-use Rattle.chars.specs.Chars.{pick}
-use Rattle.grammar.specs.Words.{open-brace, close-brace, 'in', dot, names}
+use Rattle.grammar.specs.Words.{open-brace, close-brace, 'in', dot, ':', semicolon, '->', names}
 use Rattle.grammar.specs.Grammar.{plain, closes-bracket, body, Symbol, one-of}
 use Rattle.grammar.specs.Limits.{Counts, after, inside}
 use Rattle.grammar.specs.Table.{a, behind, word, row, part, opens, closes}
-use Rattle.grammar.specs.Kinds.{no-records, NAME, RESULT, LET-TYPE, IMPORTPATH-DOT, STATEMENTS, AFTER-FOUR, AFTER-EXPR, FIELDS, FIELDS-MORE, FIELD, ELSE, ELSE-PART, BLOCK, ARMS, ARM-BODY, ARM-COMMA, ARM-NEXT, GUARD, EXPR, RETURNED, BINARY, AND, COMPARE, SUM, PRODUCT, OPERAND, POSTFIX, AFTER-PATH}
-use Rattle.grammar.specs.Rows.{detail-for}
+use Rattle.grammar.specs.Kinds.{no-records, NAME, RESULT, LET-TYPE, IMPORTPATH-DOT, STATEMENTS, STATEMENT, AFTER-FOUR, AFTER-EXPR, FIELDS, FIELDS-MORE, FIELD, ELSE, ELSE-PART, BLOCK, ARMS, ARM-BODY, ARM-COMMA, ARM-NEXT, GUARD, EXPR, BINARY, AND, COMPARE, SUM, PRODUCT, OPERAND, POSTFIX, AFTER-PATH}
 use Rattle.grammar.specs.Rows as grammar
 use Rattle.grammar.specs.Answers.{accepted, refused}
 use Rattle.grammar.specs.Answers as answers
@@ -30,9 +30,12 @@ use Rattle.parser.specs.declared.Limits.{Limits}
 use Rattle.parser.specs.declared.Node.{Node}
 use Rattle.parser.specs.declared.Read.{Read}
 use Rattle.parser.specs.declared.Read.the-variants.{Done, Refused}
-use Rattle.parser.specs.Places.{passed, later, unused, under, refusalAt, nodeOf, plainRow}
+use Rattle.parser.specs.declared.Stmt.{Stmt}
+use Rattle.parser.specs.declared.Arm.{Arm}
+use Rattle.parser.specs.Places.{wordOf, startOf, endOf, nextOf, passed, later, unused, expected, under, refusalAt, nodeOf, plainRow}
 use Rattle.parser.specs.Counted.{counts, headed, Alike}
 use Rattle.parser.specs.Going.{Stands, store, Tally, bare, lone, many, withNode, Phrase, Going, Stopped, Answers}
+use Rattle.parser.proofs.Standing.{lexed}
 use Rattle.parser.proofs.Going.{at}
 use Rattle.parser.proofs.Sides.{Around}
 
@@ -55,14 +58,18 @@ pub record Partly (f : Phrase) (r : Read) (t : List ℕ) (G : Node → Here → 
 -- The row of a token; the answer that goes past a token and writes a row; the same where the token has to be the word
 -- w, else it is unusable.
 abbrev pub itemRow : Here → Row
-itemRow h = plainRow 1 (h .start) (h .end) 0
+itemRow h = plainRow kinds.NAME (startOf h) (endOf h) 0
 
 abbrev pub wrote : List ℕ → Here → Row → Read
 wrote s h r = Done (nodeOf r) (later (passed s h))
 
+-- The same at one of the words that the lexer takes, as every reader stands that asks for it.
+abbrev pub Wrote : List ℕ → Here → List ℕ → Row → Read → List ℕ → Type 0
+Wrote s h t q r t′ = (w : List ℕ) → T (lexed w) → T (one-of (wordOf h) w) → (r ≡ wrote s h q) × (t′ ≡ putRow t (h .rows) q)
+
 pub record Closed (s : List ℕ) (h : Here) (t : List ℕ) (w : ℕ) (q : Row) (r : Read) (t′ : List ℕ) : Type 0 where
-  pub closed : h .word ≡ w → (r ≡ wrote s h q) × (t′ ≡ putRow t (h .rows) q)
-  pub other : h .word ≢ w → (r ≡ unused h) × (t′ ≡ t)
+  pub closed : wordOf h ≡ w → (r ≡ wrote s h q) × (t′ ≡ putRow t (h .rows) q)
+  pub other : wordOf h ≢ w → (r ≡ unused h) × (t′ ≡ t)
 
 -- A list in brackets, o to c: what the phrase has behind it, m being the list's node (its span and number of items).
 abbrev pub listed : Tally → ℕ → Node → Tally
@@ -84,7 +91,7 @@ pub record Perhaps (f : Phrase) (ks : List Left) (a c k n : ℕ) (h : Here) (t :
   pub going : Going f ks h t (many a end (c + n) sign) n k
 
 abbrev pub TypeSign : ℕ → ℕ → Type 0
-TypeSign n sign = ((n ≡ RESULT) × (sign ≡ 27)) ⊎ ((n ≡ LET-TYPE) × (sign ≡ 46))
+TypeSign n sign = ((n ≡ RESULT) × (sign ≡ '->')) ⊎ ((n ≡ LET-TYPE) × (sign ≡ ':'))
 
 abbrev pub Typing : List ℕ → Here → List ℕ → Limits → ℕ → Read → List ℕ → Type 0
 Typing s h t l sign r t′ =
@@ -102,7 +109,7 @@ Guarded s h t l r t′ =
 abbrev pub Grouped : List ℕ → Here → List ℕ → Limits → ℕ → ℕ → Read → List ℕ → Type 0
 Grouped s h t l start items r t′ =
     (f : Phrase) (d : Counts) (e : ℕ) (w : Option ℕ) → f .text ≡ s → Alike d l
-    → Going f (at d (a IMPORTPATH-DOT ∷ []) ∷ at (f .counts) (row 44 ∷ []) ∷ []) h t (many start e items w) 0 3
+    → Going f (at d (a IMPORTPATH-DOT ∷ []) ∷ at (f .counts) (row kinds.IMPORT-PATH ∷ []) ∷ []) h t (many start e items w) 0 3
     → Answers f 2 r t′
 
 -- The kind of phrase whose signs have this level, 1 `||` to 5 `* / %`; beyond that an operand.
@@ -121,7 +128,7 @@ pub record Postfixed (f : Phrase) (l : Limits) (b : Bool) (m : Node) (h : Here) 
   pub at-counts : Counts
   pub alike : Alike at-counts l
   pub going : Going f (at at-counts (a (POSTFIX b) ∷ []) ∷ []) h t (lone (m .kind) (m .start) (m .end)) 0 1
-      ⊎ (Going f (at at-counts (a (AFTER-PATH b) ∷ []) ∷ []) h t (lone (m .kind) (m .start) (m .end)) 0 1 × (h .word ≢ dot) × (T b → h .word ≢ open-brace))
+      ⊎ (Going f (at at-counts (a (AFTER-PATH b) ∷ []) ∷ []) h t (lone (m .kind) (m .start) (m .end)) 0 1 × (wordOf h ≢ dot) × (T b → wordOf h ≢ open-brace))
 
 abbrev pub Atom : List ℕ → Here → List ℕ → Limits → Bool → Read → List ℕ → Type 0
 Atom s h t l b r t′ = Partly (the s (counts l) (OPERAND b) h t) r t′ (λ m h′. Postfixed (the s (counts l) (OPERAND b) h t) l b m h′ t′)
@@ -134,14 +141,14 @@ AnyBehind s m h t r t′ = (l : Limits) → Behind s m h t l r t′
 
 -- The fields of a record, from behind its `{` to behind its `}`; `paths` is 1 if a path stands before the record.
 abbrev pub fieldsTail : ℕ → List Symbol → List Symbol
-fieldsTail zero ss = row 36 ∷ ss
-fieldsTail (suc n) ss = part ∷ row 36 ∷ ss
+fieldsTail zero ss = row kinds.RECORD ∷ ss
+fieldsTail (suc n) ss = part ∷ row kinds.RECORD ∷ ss
 
 abbrev pub Fielded : List ℕ → Here → List ℕ → Limits → ℕ → ℕ → Read → List ℕ → Type 0
 Fielded s h t l start paths r t′ =
     (f : Phrase) (d : Counts) (ss : List Symbol) (ks : List Left) (e k : ℕ) (w : Option ℕ) → f .text ≡ s → d ≡ counts l
     → Going f (at d (a FIELDS ∷ closes close-brace ∷ fieldsTail paths ss) ∷ ks) h t (many start e paths w) 0 k
-    ⊎ (Going f (at d (a FIELD ∷ a FIELDS-MORE ∷ closes close-brace ∷ fieldsTail paths ss) ∷ ks) h t (many start e paths w) 0 k × T (one-of (h .word) names))
+    ⊎ (Going f (at d (a FIELD ∷ a FIELDS-MORE ∷ closes close-brace ∷ fieldsTail paths ss) ∷ ks) h t (many start e paths w) 0 k × T (one-of (wordOf h) names))
     → Partly f r t′ (λ m h′. Going f (at (after closes-bracket d) ss ∷ ks) h′ t′ (lone (m .kind) (m .start) (m .end)) 0 k)
 
 -- The rows of n phrases that each end with the next, over the answer of the innermost: kind k, c children, and by its
@@ -167,16 +174,23 @@ Headed ss s h t l start r t′ =
     → Answers f 1 r t′
 
 abbrev pub afterIf : List Symbol
-afterIf = a (EXPR no-records) ∷ behind BLOCK ∷ behind ELSE ∷ row 28 ∷ []
+afterIf = a (EXPR no-records) ∷ behind BLOCK ∷ behind ELSE ∷ row kinds.IF ∷ []
 
 abbrev pub afterWhile : List Symbol
-afterWhile = a (EXPR no-records) ∷ behind BLOCK ∷ row 29 ∷ []
+afterWhile = a (EXPR no-records) ∷ behind BLOCK ∷ row kinds.WHILE ∷ []
 
 abbrev pub afterFor : List Symbol
-afterFor = a NAME ∷ word 'in' ∷ a (EXPR no-records) ∷ behind BLOCK ∷ row 30 ∷ []
+afterFor = a NAME ∷ word 'in' ∷ a (EXPR no-records) ∷ behind BLOCK ∷ row kinds.FOR ∷ []
 
 abbrev pub afterMatch : List Symbol
-afterMatch = a (EXPR no-records) ∷ opens open-brace ∷ behind ARMS ∷ closes close-brace ∷ row 31 ∷ []
+afterMatch = a (EXPR no-records) ∷ opens open-brace ∷ behind ARMS ∷ closes close-brace ∷ row kinds.MATCH ∷ []
+
+-- `name in` behind a `for`: the name, and behind it the word.
+pub record NamedIn (s : List ℕ) (h : Here) (t : List ℕ) (r : Read) (t′ : List ℕ) : Type 0 where
+  pub first : Read
+  pub name : Anyhow s NAME h t 3 first t′
+  pub stops : {e : Refusal} → first ≡ Refused e → r ≡ first
+  pub goes : {m : Node} {z : Here} → first ≡ Done m z → r ≡ expected s z 'in'
 
 -- The expr and the block of one of the first three; the block behind an `else`; past the `if` there.
 abbrev pub Tested : List ℕ → Here → List ℕ → Limits → Read → List ℕ → Type 0
@@ -188,64 +202,75 @@ Tested s h t l r t′ =
 abbrev pub Elsed : List ℕ → Here → List ℕ → Limits → ℕ → Read → List ℕ → Type 0
 Elsed s h t l start r t′ =
     (f : Phrase) (d : Counts) (e w k : ℕ) → f .text ≡ s
-    → Going f (at (counts l) (a ELSE-PART ∷ []) ∷ at d (row 28 ∷ []) ∷ []) h t (many start e 2 (some w)) 0 (k + 4)
+    → Going f (at (counts l) (a ELSE-PART ∷ []) ∷ at d (row kinds.IF ∷ []) ∷ []) h t (many start e 2 (some w)) 0 (k + 4)
     → Answers f 1 r t′
 
 abbrev pub linked : List ℕ → Here → Limits → Read
-linked s h l = pick (ltb (l .chain) 32) (under s h (l .heads)) (Refused (refusalAt 9 (h .start) (h .end)))
+linked s h l = under s h (cond (eqb (l .chain) 0) 0 (l .heads))
 
--- The arms of a match, from behind its `{` to its end; one arm, with n 1 if another may follow and 0 if not; an arm's
--- body.
+-- The arms of a match, from behind its `{` to its end; one arm, and whether another may follow; an arm's body.
 abbrev pub Matched : List ℕ → Here → List ℕ → Limits → ℕ → Read → List ℕ → Type 0
 Matched s h t l start r t′ =
     (f : Phrase) (d : Counts) (e : ℕ) (w : Option ℕ) → f .text ≡ s → inside body d ≡ counts l
-    → Going f (at d (behind ARMS ∷ closes close-brace ∷ row 31 ∷ []) ∷ []) h t (many start e 1 w) 0 1
+    → Going f (at d (behind ARMS ∷ closes close-brace ∷ row kinds.MATCH ∷ []) ∷ []) h t (many start e 1 w) 0 1
     → Answers f 1 r t′
 
-abbrev pub armLeft : Counts → ℕ → List Left
-armLeft d zero = []
-armLeft d (suc n) = at d (a ARMS ∷ []) ∷ []
-
-pub record Armed (f : Phrase) (n : ℕ) (h : Here) (t : List ℕ) : Type 0 where
+pub record Armed (f : Phrase) (ks : List Left) (h : Here) (t : List ℕ) : Type 0 where
   pub node : Node
-  pub one : n ≤ 1
-  pub around : Around f (armLeft (f .counts) n) h t node 1
+  pub around : Around f ks h t node 1
+
+abbrev pub ArmIs : Phrase → Arm → List ℕ → Type 0
+ArmIs f (Arm.Followed h) t = Armed f (at (f .counts) (a ARMS ∷ []) ∷ []) h t
+ArmIs f (Arm.Last h) t = Armed f [] h t
+ArmIs f (Arm.Refused e) t = Stopped f e t
+
+pub record OneArm (f : Phrase) (r : Arm) (t : List ℕ) : Type 0 where
+  pub is : ArmIs f r t
 
 abbrev pub Bodied : List ℕ → Here → List ℕ → Limits → Read → List ℕ → Type 0
 Bodied s h t l r t′ =
     (f : Phrase) (d : Counts) (ks : List Left) (y : Tally) (v k : ℕ) → f .text ≡ s → d ≡ counts l
     → Going f (at d (a ARM-BODY ∷ []) ∷ ks) h t y v k
-    → Partly f r t′ (λ m h′. (h .word ≡ open-brace → Going f (at d (row 32 ∷ a ARM-COMMA ∷ a ARMS ∷ []) ∷ at d [] ∷ ks) h′ t′ (withNode y m) v (k + 1)) × (h .word ≢ open-brace → Going f (at d (row 32 ∷ a ARM-NEXT ∷ []) ∷ at d [] ∷ ks) h′ t′ (withNode y m) v (k + 1)))
+    → Partly f r t′ (λ m h′. (wordOf h ≡ open-brace → Going f (at d (row kinds.ARM ∷ a ARM-COMMA ∷ a ARMS ∷ []) ∷ at d [] ∷ ks) h′ t′ (withNode y m) v (k + 1)) × (wordOf h ≢ open-brace → Going f (at d (row kinds.ARM ∷ a ARM-NEXT ∷ []) ∷ at d [] ∷ ks) h′ t′ (withNode y m) v (k + 1)))
 
--- The statements of a block, from behind its `{` to its end. One statement, and by n how it ended: 0 with its `;`, 1 as
--- an `if`, `while`, `for` or `match` without `;`, 2 as another expr without `;`, which is the last.
+-- The statements of a block, from behind its `{` to its end. One statement, and how it ended: with its `;`, as an `if`,
+-- `while`, `for` or `match` without `;`, as another expr without `;`, which is the last.
 abbrev pub Stated : List ℕ → Here → List ℕ → Limits → ℕ → Read → List ℕ → Type 0
 Stated s h t l start r t′ =
     (f : Phrase) (d : Counts) (ks : List Left) (e k : ℕ) (w : Option ℕ) → f .text ≡ s → d ≡ counts l
-    → Going f (at d (a STATEMENTS ∷ closes close-brace ∷ row 35 ∷ []) ∷ ks) h t (many start e 0 w) 0 k
+    → Going f (at d (a STATEMENTS ∷ closes close-brace ∷ row kinds.BLOCK ∷ []) ∷ ks) h t (many start e 0 w) 0 k
     → Partly f r t′ (λ m h′. Going f (at (after closes-bracket d) [] ∷ ks) h′ t′ (lone (m .kind) (m .start) (m .end)) 0 k)
-
-abbrev pub stateLeft : ℕ → List Symbol
-stateLeft zero = a STATEMENTS ∷ []
-stateLeft (suc zero) = a AFTER-FOUR ∷ []
-stateLeft (suc (suc n)) = a AFTER-EXPR ∷ []
 
 pub record Ended (f : Phrase) (d : Counts) (ks : List Left) (x c k n : ℕ) (h : Here) (t : List ℕ) : Type 0 where
   pub end : ℕ
   pub sign : Option ℕ
-  pub two : n ≤ 2
-  pub unended : 0 ≢ n → h .word ≢ 47
-  pub going : Going f (at d (stateLeft n) ∷ ks) h t (many x end (c + 1) sign) 0 k
+  pub going : Going f (at d (a n ∷ []) ∷ ks) h t (many x end (c + 1) sign) 0 k
 
-abbrev pub Statement : List Symbol → List ℕ → Here → List ℕ → Limits → Read → List ℕ → Type 0
-Statement symbols s h t l r t′ =
+abbrev pub StatementIs : Phrase → Counts → List Left → ℕ → ℕ → ℕ → Stmt → List ℕ → Type 0
+StatementIs f d ks x c k (Stmt.Ended h) t = Ended f d ks x c k STATEMENTS h t
+StatementIs f d ks x c k (Stmt.Four h) t = Ended f d ks x c k AFTER-FOUR h t × (wordOf h ≢ semicolon)
+StatementIs f d ks x c k (Stmt.Last h) t = Ended f d ks x c k AFTER-EXPR h t × (wordOf h ≢ semicolon)
+StatementIs f d ks x c k (Stmt.Refused e) t = Stopped f e t
+
+pub record OneStatement (f : Phrase) (d : Counts) (ks : List Left) (x c k : ℕ) (r : Stmt) (t : List ℕ) : Type 0 where
+  pub is : StatementIs f d ks x c k r t
+
+abbrev pub Statement : List ℕ → Here → List ℕ → Limits → Stmt → List ℕ → Type 0
+Statement s h t l r t′ =
     (f : Phrase) (d : Counts) (ks : List Left) (x e c k : ℕ) (w : Option ℕ) → f .text ≡ s → d ≡ counts l
-    → Going f (at d symbols ∷ ks) h t (many x e c w) 0 k
-    → Partly f r t′ (λ m h′. Ended f d ks x c k (m .children) h′ t′)
+    → Going f (at d (a STATEMENT ∷ []) ∷ ks) h t (many x e c w) 0 k
+    → OneStatement f d ks x c k r t′
+
+-- A reader that has read a statement stands further on than before.
+abbrev pub BeyondStatement : List ℕ → Here → Stmt → Type 0
+BeyondStatement s h (Stmt.Ended z) = Stands s z × (nextOf h < nextOf z)
+BeyondStatement s h (Stmt.Four z) = Stands s z × (nextOf h < nextOf z)
+BeyondStatement s h (Stmt.Last z) = Stands s z × (nextOf h < nextOf z)
+BeyondStatement s h (Stmt.Refused e) = Prim.Unit {0}
 
 -- A reader that has answered `Done` stands further on than before.
 abbrev pub Beyond : List ℕ → Here → Read → Type 0
-Beyond s h (Done m z) = Stands s z × (h .next < z .next)
+Beyond s h (Done m z) = Stands s z × (nextOf h < nextOf z)
 Beyond s h (Refused e) = Prim.Unit {0}
 
 -- A whole source: its rows and where they stand in the table, or the refusal that document 01 determines (1 where the

@@ -1,14 +1,10 @@
 -- The lent table: "A row is six u64 numbers: kind, start, end, children, value, detail."
 use Prim.Native.Nat.{ℕ, zero, suc, _+_, _*_, _/_}
 use mathlib.Core.List.{List, [], _∷_}
-use mathlib.Core.Bool.{Bool, true, false}
+use mathlib.Core.Bool.{cond}
 use lib.ListN.{length, set}
 use lib.Dec.{ltb}
 use Rattle.rows.specs.declared.Row.{Row}
-
-abbrev pub either : Bool → List ℕ → List ℕ → List ℕ
-either true a b = a
-either false a b = b
 
 -- "Room is the lent length divided by 6, rounded down."
 abbrev pub room : List ℕ → ℕ
@@ -21,7 +17,7 @@ written table i r =
 
 -- the table with row n at its place, where there is room for it
 unfoldable pub putRow : List ℕ → ℕ → Row → List ℕ
-putRow table n r = either (ltb n (room table)) (written table (n * 6) r) table
+putRow table n r = cond (ltb n (room table)) (written table (n * 6) r) table
 
 -- "zeros fill the rest": all numbers from a place on
 unfoldable pub zeroed : List ℕ → ℕ → List ℕ

@@ -3,6 +3,8 @@
 ghost use mathlib.Core.Path.{_≡_};
 ghost use Rattle.rows.specs.Rows.{putRow, zeroed};
 
+pub mod kind;
+
 pub struct Row {
     pub kind: u64,
     pub start: usize,

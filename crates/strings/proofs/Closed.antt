@@ -3,7 +3,7 @@ use mathlib.Core.Path.{_≡_, refl, sym, ap, ap₂, _∙_, subst}
 use Prim.Native.Nat.{ℕ, zero, suc, _+_, _-_, _*_, _<_, _≤_}
 use mathlib.Core.List.{List, [], _∷_, _++_, map, append-assoc}
 use mathlib.Core.Option.{Option, none, some}
-use mathlib.Core.Bool.{Bool, true, false, _&&_, _||_, not}
+use mathlib.Core.Bool.{Bool, true, false, _&&_, _||_, not, cond}
 use native.Mathlib.Nat.{zero-add, le-refl}
 use native.Mathlib.Omega.{arith}
 use lib.ListN.{length, take, drop, length-drop, take-append-drop}
@@ -14,7 +14,7 @@ use Rattle.chars.specs.Chars.{byteAt}
 use Rattle.chars.proofs.Runs.{byte-in, within}
 use Rattle.numbers.specs.declared.Base.{Base}
 use Rattle.numbers.specs.declared.Number.{Number}
-use Rattle.numbers.specs.Digits.{choose, digitOf, allBelow, plain, numberOf}
+use Rattle.numbers.specs.Digits.{digitOf, allBelow, plain, numberOf}
 use Rattle.numbers.specs.Texts.{untilByte}
 use Rattle.numbers.proofs.Choices.{second, and-left, and-right}
 use Rattle.numbers.proofs.Digits.{number-says}
@@ -39,7 +39,7 @@ unfolding openFor
 passed b l h k = sym (second 0 (ne-eqb b 34 h) (ap (λ u. suc (openFor u l)) (sym (ne-eqb b 92 k))))
 
 escaped : (b : ℕ) (l : List ℕ) → openFor false (92 ∷ b ∷ l) ≡ suc (suc (openFor false l))
-unfolding openFor choose
+unfolding openFor
 escaped b l = refl
 
 clean-run : (l r : List ℕ) → Clean l → openFor false (l ++ r) ≡ length l + openFor false r
@@ -48,22 +48,22 @@ clean-run (b ∷ l) r h = passed b (l ++ r) (h .0) (h .1) ∙ ap suc (clean-run 
 
 -- hex digits and underscores are clean
 digit-34 : digitOf 34 ≡ 16
-unfolding digitOf choose
+unfolding digitOf
 digit-34 = refl
 
 digit-92 : digitOf 92 ≡ 16
-unfolding digitOf choose
+unfolding digitOf
 digit-92 = refl
 
 clean-digit : (b : ℕ) → digitOf b < 16 → (b ≡ 34 → ⊥) × (b ≡ 92 → ⊥)
 clean-digit b h = (λ e. omega (arith, h, ap digitOf e ∙ digit-34), λ e. omega (arith, h, ap digitOf e ∙ digit-92))
 
 clean-digits : (l : List ℕ) → allBelow 16 (map digitOf (plain true l)) ≡ true → Clean l
-unfolding plain choose allBelow
+unfolding plain allBelow
 clean-digits [] h = tt
 clean-digits (b ∷ l) h = go (eqb b 95) refl h (clean-digits l)
   where
-    go : (u : Bool) → eqb b 95 ≡ u → allBelow 16 (map digitOf (choose u (plain true l) (b ∷ plain true l))) ≡ true → (allBelow 16 (map digitOf (plain true l)) ≡ true → Clean l) → Clean (b ∷ l)
+    go : (u : Bool) → eqb b 95 ≡ u → allBelow 16 (map digitOf (cond u (plain true l) (b ∷ plain true l))) ≡ true → (allBelow 16 (map digitOf (plain true l)) ≡ true → Clean l) → Clean (b ∷ l)
     go true e k ih = (λ q. omega (arith, q, eqb-true b 95 e), λ q. omega (arith, q, eqb-true b 95 e), ih k)
     go false e k ih =
         let d : (b ≡ 34 → ⊥) × (b ≡ 92 → ⊥) = clean-digit b (ltb-true (digitOf b) 16 (and-left (ltb (digitOf b) 16) (allBelow 16 (map digitOf (plain true l))) k)) in
@@ -104,10 +104,10 @@ two-digits (a ∷ b ∷ c ∷ d ∷ m) h x y =
 
 module _ (l : List ℕ) (back : byteAt l 0 ≡ 92) where
   ascii-passes : Passing l (asciiOf l)
-  unfolding asciiOf choose
+  unfolding asciiOf
   ascii-passes = go (ltb (digitOf (byteAt l 2)) 8 && ltb (digitOf (byteAt l 3)) 16) refl
     where
-      go : (u : Bool) → (ltb (digitOf (byteAt l 2)) 8 && ltb (digitOf (byteAt l 3)) 16) ≡ u → Passing l (choose u (Piece.Is (digitOf (byteAt l 2) * 16 + digitOf (byteAt l 3)) 4) Piece.None)
+      go : (u : Bool) → (ltb (digitOf (byteAt l 2)) 8 && ltb (digitOf (byteAt l 3)) 16) ≡ u → Passing l (cond u (Piece.Is (digitOf (byteAt l 2) * 16 + digitOf (byteAt l 3)) 4) Piece.None)
       go true e =
           let b : (digitOf (byteAt l 2) < 8) × (digitOf (byteAt l 3) < 16) = below-two {h = digitOf (byteAt l 2)} {l = digitOf (byteAt l 3)} {m = 8} {n = 16} e in
           let i : 3 < length l = within (λ n. ltb (digitOf n) 16) past-digit l 3 (and-right (ltb (digitOf (byteAt l 2)) 8) (ltb (digitOf (byteAt l 3)) 16) e) in
@@ -131,7 +131,7 @@ module _ (l : List ℕ) (back : byteAt l 0 ≡ 92) where
       (subst Clean (sym w) (λ z. omega (arith, z), λ z. omega (arith, z), clean-append (slice 3 e l) (125 ∷ []) c (λ z. omega (arith, z), λ z. omega (arith, z), tt))))
 
   unicode-passes : Passing l (unicodeOf l)
-  unfolding unicodeOf choose scalarOf
+  unfolding unicodeOf scalarOf
   unicode-passes = go (eqb (byteAt l 2) 123) (unclosed (byteAt l (untilByte 125 l 3)) (byteAt l 3)) refl refl
     where
       scalar : (n : Number) → numberOf Base.Sixteen 1114111 (plain true (slice 3 (untilByte 125 l 3) l)) ≡ n → eqb (byteAt l 2) 123 ≡ true → unclosed (byteAt l (untilByte 125 l 3)) (byteAt l 3) ≡ false → Passing l (scalarOf n (untilByte 125 l 3 + 1))
@@ -140,7 +140,7 @@ module _ (l : List ℕ) (back : byteAt l 0 ≡ 92) where
           y : byteAt l (untilByte 125 l 3) ≡ 125
           y = closed (byteAt l (untilByte 125 l 3)) (byteAt l 3) g
 
-          pick : (u : Bool) → Passing l (choose u (Piece.Is v (untilByte 125 l 3 + 1)) Piece.None)
+          pick : (u : Bool) → Passing l (cond u (Piece.Is v (untilByte 125 l 3 + 1)) Piece.None)
           pick true =
               braced (untilByte 125 l 3) (until-ge 125 l 3) (within (λ n. eqb n 125) refl l (untilByte 125 l 3) (eq-eqb _ _ y)) (eqb-true (byteAt l 2) 123 f) y
               (clean-digits (slice 3 (untilByte 125 l 3) l) (number-says Base.Sixteen 1114111 (plain true (slice 3 (untilByte 125 l 3) l)) q .digits))
@@ -148,24 +148,24 @@ module _ (l : List ℕ) (back : byteAt l 0 ≡ 92) where
       scalar Number.None q f g = tt
 
       go : (u v : Bool) → eqb (byteAt l 2) 123 ≡ u → unclosed (byteAt l (untilByte 125 l 3)) (byteAt l 3) ≡ v
-          → Passing l (choose u (choose v Piece.None (scalarOf (numberOf Base.Sixteen 1114111 (plain true (slice 3 (untilByte 125 l 3) l))) (untilByte 125 l 3 + 1))) Piece.None)
+          → Passing l (cond u (cond v Piece.None (scalarOf (numberOf Base.Sixteen 1114111 (plain true (slice 3 (untilByte 125 l 3) l))) (untilByte 125 l 3 + 1))) Piece.None)
       go true true f g = tt
       go true false f g = scalar (numberOf Base.Sixteen 1114111 (plain true (slice 3 (untilByte 125 l 3) l))) refl f g
       go false v f g = tt
 
   plain-passes : Passing l (plainEscape (simpleOf (byteAt l 1)))
-  unfolding plainEscape choose
+  unfolding plainEscape
   plain-passes = go (eqb (simpleOf (byteAt l 1)) 256) refl
     where
-      go : (u : Bool) → eqb (simpleOf (byteAt l 1)) 256 ≡ u → Passing l (choose u Piece.None (Piece.Is (simpleOf (byteAt l 1)) 2))
+      go : (u : Bool) → eqb (simpleOf (byteAt l 1)) 256 ≡ u → Passing l (cond u Piece.None (Piece.Is (simpleOf (byteAt l 1)) 2))
       go true e = tt
       go false e = behind l 0 back (within (λ n. not (eqb (simpleOf n) 256)) past-escape l 1 (ap not e)) tt
 
   escape-passes : Passing l (escapeOf l)
-  unfolding escapeOf choose
+  unfolding escapeOf
   escape-passes = go (eqb (byteAt l 1) 120) (eqb (byteAt l 1) 117)
     where
-      go : (u v : Bool) → Passing l (choose u (asciiOf l) (choose v (unicodeOf l) (plainEscape (simpleOf (byteAt l 1)))))
+      go : (u v : Bool) → Passing l (cond u (asciiOf l) (cond v (unicodeOf l) (plainEscape (simpleOf (byteAt l 1)))))
       go true v = ascii-passes
       go false true = unicode-passes
       go false false = plain-passes
@@ -186,10 +186,10 @@ bare-passes (b ∷ l) h e r =
     passed b (l ++ r) (d .0) (d .1) ∙ omega arith
 
 piece-passes : (l : List ℕ) → 0 < length l → Passing l (pieceOf 34 l)
-unfolding pieceOf choose
+unfolding pieceOf
 piece-passes l h = go (eqb (byteAt l 0) 92) (isBare 34 (byteAt l 0)) refl refl
   where
-    go : (u v : Bool) → eqb (byteAt l 0) 92 ≡ u → isBare 34 (byteAt l 0) ≡ v → Passing l (choose u (escapeOf l) (choose v (Piece.Is (byteAt l 0) 1) Piece.None))
+    go : (u v : Bool) → eqb (byteAt l 0) 92 ≡ u → isBare 34 (byteAt l 0) ≡ v → Passing l (cond u (escapeOf l) (cond v (Piece.Is (byteAt l 0) 1) Piece.None))
     go true v e f = escape-passes l (eqb-true _ _ e)
     go false true e f = bare-passes l h f
     go false false e f = tt
@@ -204,7 +204,7 @@ abbrev Shorter : ℕ → Type 0
 Shorter m = (l cs : List ℕ) → length l ≤ m → codesOf l ≡ some cs → openFor false (l ++ 34 ∷ []) ≡ length l
 
 longer : (m : ℕ) → Shorter m → Shorter (suc m)
-unfolding openFor choose
+unfolding openFor
 longer m ih [] cs h e = refl
 longer m ih (b ∷ l) cs h e = go (pieceOf 34 (b ∷ l)) refl (piece-passes (b ∷ l) (omega arith))
   where
@@ -218,7 +218,7 @@ longer m ih (b ∷ l) cs h e = go (pieceOf 34 (b ∷ l)) refl (piece-passes (b �
     go Piece.None f pass = let z : _≡_ {A = ℕ} 0 1 = cc (codes-none (b ∷ l) (omega arith) f) in absurd (omega arith)
 
 nothing-left : Shorter 0
-unfolding openFor choose
+unfolding openFor
 nothing-left [] cs h e = refl
 nothing-left (b ∷ l) cs h e = absurd (omega (arith, h))
 

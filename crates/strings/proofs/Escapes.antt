@@ -2,7 +2,7 @@
 use mathlib.Core.Path.{_≡_, refl, sym, ap, _∙_, subst}
 use Prim.Native.Nat.{ℕ, _+_, _-_, _*_, _<_, _≤_}
 use mathlib.Core.List.{List}
-use mathlib.Core.Bool.{Bool, true, false, _&&_, _||_, not}
+use mathlib.Core.Bool.{Bool, true, false, _&&_, _||_, not, cond}
 use native.Mathlib.Omega.{arith}
 use lib.ListN.{length, take, drop}
 use lib.Seq.{slice}
@@ -12,7 +12,7 @@ use Rattle.chars.specs.Chars.{byteAt}
 use Rattle.chars.proofs.Runs.{within}
 use Rattle.numbers.specs.declared.Base.{Base}
 use Rattle.numbers.specs.declared.Number.{Number}
-use Rattle.numbers.specs.Digits.{choose, digitOf, numberOf, plain}
+use Rattle.numbers.specs.Digits.{digitOf, numberOf, plain}
 use Rattle.numbers.specs.Texts.{untilByte}
 use Rattle.numbers.proofs.Choices.{so, first, second, and-left, and-right}
 use Rattle.numbers.proofs.Digits.{number-says}
@@ -59,7 +59,7 @@ module _ (t : List ℕ) {b : ℕ} (hb : b ≡ byteAt t 2) where
   unicode-open e = second _ (ne-eqb _ _ (λ q. e (hb ∙ q))) refl
 
   module _ (f : b ≡ 123) {e x y : ℕ} (he : e ≡ untilByte 125 t 3) (hx : x ≡ byteAt t e) (hy : y ≡ byteAt t 3) where
-    inside : {r : Piece} → r ≡ choose (unclosed x y) Piece.None (scalarOf (numberOf Base.Sixteen 1114111 (plain true (slice 3 e t))) (e + 1)) → r ≡ unicodeOf t
+    inside : {r : Piece} → r ≡ cond (unclosed x y) Piece.None (scalarOf (numberOf Base.Sixteen 1114111 (plain true (slice 3 e t))) (e + 1)) → r ≡ unicodeOf t
     unfolding unicodeOf
     inside g = first _ (eq-eqb _ _ (sym hb ∙ f)) (g ∙ rw (← he, ← hx, ← hy) refl)
 
@@ -148,15 +148,14 @@ Sounds t Piece.None = Unit {0}
 
 -- the number past the end is no hex digit, and no escape
 pub past-digit : ltb (digitOf 256) 16 ≡ false
-unfolding digitOf choose
+unfolding digitOf
 past-digit = refl
 
 pub past-escape : not (eqb (simpleOf 256) 256) ≡ false
-unfolding simpleOf choose
+unfolding simpleOf
 past-escape = refl
 
-at-most : (u : Bool) {a b : ℕ} (m : ℕ) → a ≤ m → b ≤ m → choose u a b ≤ m
-unfolding choose
+at-most : (u : Bool) {a b : ℕ} (m : ℕ) → a ≤ m → b ≤ m → cond u a b ≤ m
 at-most true m h k = h
 at-most false m h k = k
 
@@ -181,10 +180,10 @@ bare-small quote b e =
 
 module _ (t : List ℕ) where
   ascii-sound : Sounds t (asciiOf t)
-  unfolding asciiOf choose
+  unfolding asciiOf
   ascii-sound = go (ltb (digitOf (byteAt t 2)) 8 && ltb (digitOf (byteAt t 3)) 16) refl
     where
-      go : (u : Bool) → (ltb (digitOf (byteAt t 2)) 8 && ltb (digitOf (byteAt t 3)) 16) ≡ u → Sounds t (choose u (Piece.Is (digitOf (byteAt t 2) * 16 + digitOf (byteAt t 3)) 4) Piece.None)
+      go : (u : Bool) → (ltb (digitOf (byteAt t 2)) 8 && ltb (digitOf (byteAt t 3)) 16) ≡ u → Sounds t (cond u (Piece.Is (digitOf (byteAt t 2) * 16 + digitOf (byteAt t 3)) 4) Piece.None)
       go true e =
           let b : (digitOf (byteAt t 2) < 8) × (digitOf (byteAt t 3) < 16) = below-two {h = digitOf (byteAt t 2)} {l = digitOf (byteAt t 3)} {m = 8} {n = 16} e in
           let i : 3 < length t = within (λ n. ltb (digitOf n) 16) past-digit t 3 (and-right (ltb (digitOf (byteAt t 2)) 8) (ltb (digitOf (byteAt t 3)) 16) e) in
@@ -192,10 +191,10 @@ module _ (t : List ℕ) where
       go false e = tt
 
   plain-sound : Sounds t (plainEscape (simpleOf (byteAt t 1)))
-  unfolding plainEscape choose
+  unfolding plainEscape
   plain-sound = go (eqb (simpleOf (byteAt t 1)) 256) refl
     where
-      go : (u : Bool) → eqb (simpleOf (byteAt t 1)) 256 ≡ u → Sounds t (choose u Piece.None (Piece.Is (simpleOf (byteAt t 1)) 2))
+      go : (u : Bool) → eqb (simpleOf (byteAt t 1)) 256 ≡ u → Sounds t (cond u Piece.None (Piece.Is (simpleOf (byteAt t 1)) 2))
       go true e = tt
       go false e =
           let i : 1 < length t = within (λ n. not (eqb (simpleOf n) 256)) past-escape t 1 (ap not e) in
@@ -204,10 +203,10 @@ module _ (t : List ℕ) where
           record { some = omega arith; inside = i; point = omega arith; wide = (λ h. omega arith, λ h. omega arith) }
 
   scalar-sound : (e : ℕ) (text : List ℕ) → 3 ≤ e → e < length t → Sounds t (scalarOf (numberOf Base.Sixteen 1114111 text) (e + 1))
-  unfolding scalarOf choose
+  unfolding scalarOf
   scalar-sound e text h k = go (numberOf Base.Sixteen 1114111 text) refl
     where
-      pick : (v d : ℕ) → v ≤ 1114111 → (u : Bool) → Sounds t (choose u (Piece.Is v (e + 1)) Piece.None)
+      pick : (v d : ℕ) → v ≤ 1114111 → (u : Bool) → Sounds t (cond u (Piece.Is v (e + 1)) Piece.None)
       pick v d m true = record { some = omega arith; inside = omega arith; point = m; wide = (λ z. omega arith, λ z. omega arith) }
       pick v d m false = tt
 
@@ -216,11 +215,11 @@ module _ (t : List ℕ) where
       go Number.None q = tt
 
   unicode-sound : Sounds t (unicodeOf t)
-  unfolding unicodeOf choose
+  unfolding unicodeOf
   unicode-sound = go (eqb (byteAt t 2) 123) (unclosed (byteAt t (untilByte 125 t 3)) (byteAt t 3)) refl
     where
       go : (u v : Bool) → unclosed (byteAt t (untilByte 125 t 3)) (byteAt t 3) ≡ v
-          → Sounds t (choose u (choose v Piece.None (scalarOf (numberOf Base.Sixteen 1114111 (plain true (slice 3 (untilByte 125 t 3) t))) (untilByte 125 t 3 + 1))) Piece.None)
+          → Sounds t (cond u (cond v Piece.None (scalarOf (numberOf Base.Sixteen 1114111 (plain true (slice 3 (untilByte 125 t 3) t))) (untilByte 125 t 3 + 1))) Piece.None)
       go true true e = tt
       go true false e =
           scalar-sound (untilByte 125 t 3) (plain true (slice 3 (untilByte 125 t 3) t)) (until-ge 125 t 3)
@@ -228,10 +227,10 @@ module _ (t : List ℕ) where
       go false v e = tt
 
   escape-sound : Sounds t (escapeOf t)
-  unfolding escapeOf choose
+  unfolding escapeOf
   escape-sound = go (eqb (byteAt t 1) 120) (eqb (byteAt t 1) 117)
     where
-      go : (u v : Bool) → Sounds t (choose u (asciiOf t) (choose v (unicodeOf t) (plainEscape (simpleOf (byteAt t 1)))))
+      go : (u v : Bool) → Sounds t (cond u (asciiOf t) (cond v (unicodeOf t) (plainEscape (simpleOf (byteAt t 1)))))
       go true v = ascii-sound
       go false true = unicode-sound
       go false false = plain-sound
@@ -243,10 +242,10 @@ module _ (t : List ℕ) where
       record { some = omega arith; inside = i; point = omega arith; wide = (λ h. omega arith, λ h. omega arith) }
 
   piece-sound : (quote : ℕ) → Sounds t (pieceOf quote t)
-  unfolding pieceOf choose
+  unfolding pieceOf
   piece-sound quote = go (eqb (byteAt t 0) 92) (isBare quote (byteAt t 0)) refl
     where
-      go : (u v : Bool) → isBare quote (byteAt t 0) ≡ v → Sounds t (choose u (escapeOf t) (choose v (Piece.Is (byteAt t 0) 1) Piece.None))
+      go : (u v : Bool) → isBare quote (byteAt t 0) ≡ v → Sounds t (cond u (escapeOf t) (cond v (Piece.Is (byteAt t 0) 1) Piece.None))
       go true v e = escape-sound
       go false true e = bare-sound quote e
       go false false e = tt

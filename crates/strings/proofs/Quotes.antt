@@ -3,7 +3,7 @@ use mathlib.Core.Path.{_≡_, refl, sym, ap, ap₂, _∙_, subst}
 use Prim.Native.Nat.{ℕ, zero, suc, _+_, _-_, _<_, _≤_}
 use mathlib.Core.List.{List, [], _∷_, _++_}
 use mathlib.Core.Option.{Option, none, some}
-use mathlib.Core.Bool.{Bool, true, false, _&&_}
+use mathlib.Core.Bool.{Bool, true, false, _&&_, cond}
 use native.Mathlib.Nat.{zero-add, sub-zero, zero-sub, suc-sub-suc}
 use native.Mathlib.Omega.{arith}
 use lib.ListN.{length, getD, take, drop, replicate, length-replicate}
@@ -12,13 +12,12 @@ use lib.Dec.{eqb, ltb, leb}
 use borrow.Author.Tests.{le-leb, lt-leb, leb-true, eq-eqb, ne-eqb, eqb-true, lt-ltb, le-ltb}
 use Rattle.chars.specs.Chars.{byteAt}
 use Rattle.chars.proofs.Runs.{byte-in}
-use Rattle.numbers.specs.Digits.{choose}
 use Rattle.numbers.proofs.Choices.{so, first, second, and, and-left, and-right, not-left, not-right}
 use Rattle.numbers.proofs.Texts.{part-slice}
 use Rattle.strings.specs.declared.Piece.{Piece}
 use Rattle.strings.specs.declared.Size.{Size}
 use Rattle.strings.specs.declared.Point.{Point}
-use Rattle.strings.specs.declared.Answer.{Answer}
+use Rattle.chars.specs.declared.Answer.{Answer}
 use Rattle.strings.specs.Escapes.{pieceOf}
 use Rattle.strings.specs.Strings.{codesOf, encoded, bytesOf, sized, measureOf, Holds, isQuoted, inside, sizeOf, wholly, charOf, openFor, isToken, tokenSize, answerFor, answerOf, contentFor, contentOf}
 use Rattle.strings.proofs.Closed.{open-inside}
@@ -98,18 +97,18 @@ drop-replicate (suc k) (suc n) = drop-replicate k n ∙ sym (ap zeros (suc-sub-s
 
 module _ (t : List ℕ) {k : ℕ} (e : sizeOf t ≡ Size.Is k) where
   pub size-long : 2 ≤ length t
-  unfolding sizeOf choose
+  unfolding sizeOf
   size-long = go (isQuoted 34 t) refl e
     where
-      go : (u : Bool) → isQuoted 34 t ≡ u → choose u (measureOf (inside t)) Size.None ≡ Size.Is k → 2 ≤ length t
+      go : (u : Bool) → isQuoted 34 t ≡ u → cond u (measureOf (inside t)) Size.None ≡ Size.Is k → 2 ≤ length t
       go true f g = quoted-long 34 t f
       go false f g = let z : _≡_ {A = ℕ} 0 1 = cc in absurd (omega arith)
 
   pub size-inside : measureOf (inside t) ≡ Size.Is k
-  unfolding sizeOf choose
+  unfolding sizeOf
   size-inside = go (isQuoted 34 t) e
     where
-      go : (u : Bool) → choose u (measureOf (inside t)) Size.None ≡ Size.Is k → measureOf (inside t) ≡ Size.Is k
+      go : (u : Bool) → cond u (measureOf (inside t)) Size.None ≡ Size.Is k → measureOf (inside t) ≡ Size.Is k
       go true g = g
       go false g = let z : _≡_ {A = ℕ} 0 1 = cc in absurd (omega arith)
 
@@ -151,15 +150,15 @@ closed-by-last t {k} e f = go (codesOf (inside t)) refl f
     go none g h = let z : _≡_ {A = ℕ} 0 1 = cc in absurd (omega arith)
 
 token-size : (t : List ℕ) → length t ≤ 65535 → tokenSize t ≡ sizeOf t
-unfolding tokenSize isToken sizeOf choose
+unfolding tokenSize isToken sizeOf
 token-size t h = go (isQuoted 34 t) refl (measureOf (inside t)) refl
   where
-    go : (q : Bool) → isQuoted 34 t ≡ q → (r : Size) → measureOf (inside t) ≡ r → choose (leb (length t) 65535 && (q && closes t)) (measureOf (inside t)) Size.None ≡ choose q (measureOf (inside t)) Size.None
+    go : (q : Bool) → isQuoted 34 t ≡ q → (r : Size) → measureOf (inside t) ≡ r → cond (leb (length t) 65535 && (q && closes t)) (measureOf (inside t)) Size.None ≡ cond q (measureOf (inside t)) Size.None
     go false e r f = sym (second (measureOf (inside t)) (not-right (leb (length t) 65535) refl) refl)
     go true e (Size.Is k) f = sym (first Size.None (and (le-leb _ _ h) (closed-by-last t e f)) refl)
     go true e Size.None f = either (leb (length t) 65535 && closes t) f
       where
-        either : (u : Bool) → measureOf (inside t) ≡ Size.None → choose u (measureOf (inside t)) Size.None ≡ measureOf (inside t)
+        either : (u : Bool) → measureOf (inside t) ≡ Size.None → cond u (measureOf (inside t)) Size.None ≡ measureOf (inside t)
         either true g = refl
         either false g = sym g
 

@@ -2,7 +2,7 @@
 use mathlib.Core.Path.{_≡_, refl, ap, _∙_}
 use Prim.Native.Nat.{ℕ, suc, _+_, _/_, _%_, _<_, _≤_}
 use mathlib.Core.List.{List, [], _∷_, _++_}
-use mathlib.Core.Bool.{Bool, true, false}
+use mathlib.Core.Bool.{Bool, true, false, cond}
 use native.Mathlib.Nat.{add-zero, add-suc, suc-add}
 use native.Mathlib.Numerals.{towards-suc}
 use native.Mathlib.Omega.{arith}
@@ -10,7 +10,6 @@ use lib.ListN.{length, set}
 use lib.Seq.{sets}
 use lib.Dec.{ltb}
 use borrow.Author.Tests.{lt-ltb, le-ltb, ltb-false}
-use Rattle.numbers.specs.Digits.{choose}
 use Rattle.numbers.proofs.Choices.{first, second}
 use Rattle.strings.specs.Utf8.{utf8, widthOf}
 
@@ -50,16 +49,16 @@ module _ (c : ℕ) where
       utf8-four m = second _ (le-ltb _ _ h) (second _ (le-ltb _ _ k) (second _ (le-ltb _ _ m) refl))
 
 pub length-utf8 : (c : ℕ) → length (utf8 c) ≡ widthOf c
-unfolding utf8 widthOf choose
+unfolding utf8 widthOf
 length-utf8 c = go (ltb c 128) (ltb c 2048) (ltb c 65536)
   where
     go : (u v w : Bool)
         → length
-        (choose u (c ∷ [])
-        (choose v ((192 + c / 64) ∷ (128 + c % 64) ∷ [])
-        (choose w ((224 + c / 4096) ∷ (128 + c / 64 % 64) ∷ (128 + c % 64) ∷ [])
+        (cond u (c ∷ [])
+        (cond v ((192 + c / 64) ∷ (128 + c % 64) ∷ [])
+        (cond w ((224 + c / 4096) ∷ (128 + c / 64 % 64) ∷ (128 + c % 64) ∷ [])
         ((240 + c / 262144) ∷ (128 + c / 4096 % 64) ∷ (128 + c / 64 % 64) ∷ (128 + c % 64) ∷ []))))
-        ≡ choose u 1 (choose v 2 (choose w 3 4))
+        ≡ cond u 1 (cond v 2 (cond w 3 4))
     go true v w = refl
     go false true w = refl
     go false false true = refl
@@ -67,10 +66,10 @@ length-utf8 c = go (ltb c 128) (ltb c 2048) (ltb c 65536)
 
 -- a character is written in as many bytes as it decodes to, or more
 pub width-most : (c n : ℕ) → 1 ≤ n → (128 ≤ c → 2 ≤ n) × (2048 ≤ c → 4 ≤ n) → widthOf c ≤ n
-unfolding widthOf choose
+unfolding widthOf
 width-most c n h k = go (ltb c 128) (ltb c 2048) (ltb c 65536) refl refl
   where
-    go : (u v w : Bool) → ltb c 128 ≡ u → ltb c 2048 ≡ v → choose u 1 (choose v 2 (choose w 3 4)) ≤ n
+    go : (u v w : Bool) → ltb c 128 ≡ u → ltb c 2048 ≡ v → cond u 1 (cond v 2 (cond w 3 4)) ≤ n
     go true v w e f = h
     go false true w e f = k .0 (ltb-false _ _ e)
     go false false true e f = omega (arith, k .1 (ltb-false _ _ f))

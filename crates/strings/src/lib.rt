@@ -1,4 +1,7 @@
 // The values of strings and chars, and a string decoded to bytes.
+use chars::Answer;
+use chars::MOST_BYTES;
+use chars::refusal;
 use numbers::Base;
 use numbers::Number;
 ghost use mathlib.Core.Path.{_≡_};
@@ -24,14 +27,6 @@ pub enum Size {
 pub enum Point {
     Is(u64),
     None,
-}
-
-// The answer of an entry point: a number, a place and a count.
-pub struct Answer {
-    pub number: u64,
-    pub start: usize,
-    pub end: usize,
-    pub count: usize,
 }
 
 fn bare(quote: u16, b: u16) -> bool
@@ -251,11 +246,11 @@ pub fn decode(s: &[u8], out: &mut [u8]) -> Answer
 {
     clear(out);
     let n = s.len();
-    if n <= 65535 {
+    if n <= MOST_BYTES {
         if let Size::Is(count) = string(s) {
             if out.len() < count {
                 return Answer {
-                    number: 10,
+                    number: refusal::NO_ROOM,
                     start: 0,
                     end: 0,
                     count,
@@ -263,7 +258,7 @@ pub fn decode(s: &[u8], out: &mut [u8]) -> Answer
             }
             write(&s[1..n - 1], out);
             return Answer {
-                number: 0,
+                number: refusal::NONE,
                 start: 0,
                 end: n,
                 count,
@@ -271,7 +266,7 @@ pub fn decode(s: &[u8], out: &mut [u8]) -> Answer
         }
     }
     Answer {
-        number: 7,
+        number: refusal::VALUELESS,
         start: 0,
         end: n,
         count: 0,

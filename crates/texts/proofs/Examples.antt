@@ -6,7 +6,7 @@ use Prim.Native.Nat.{ℕ}
 use Prim.Native.String.{String}
 use Rattle.chars.specs.Chars.{byteAt}
 use Rattle.chars.specs.Texts.{bytes}
-use Rattle.numbers.specs.Digits.{choose, digitOf, valueFrom, allBelow, plain, numberFrom, numberOf}
+use Rattle.numbers.specs.Digits.{digitOf, valueFrom, allBelow, plain, numberFrom, numberOf}
 use Rattle.numbers.specs.Texts.{ahead, untilByte}
 use Rattle.strings.specs.declared.Size.{Size}
 use Rattle.strings.specs.Escapes.{simpleOf, asciiOf, scalarOf, unicodeOf, plainEscape, escapeOf, pieceOf}
@@ -68,9 +68,9 @@ unfolding bytes pastOpen pastClose pastCode pastEscape pastItem pastItems endAt 
 pieces-end = refl
 
 pieces-count : map (λ (t : Sized). textOf (bytes (t .text))) sized ≡ map (λ (t : Sized). t .size) sized
-unfolding bytes byteAt choose digitOf valueFrom allBelow plain numberFrom numberOf ahead untilByte simpleOf asciiOf scalarOf unicodeOf plainEscape escapeOf pieceOf codesFrom utf8 encode halved textOf
+unfolding bytes byteAt digitOf valueFrom allBelow plain numberFrom numberOf ahead untilByte simpleOf asciiOf scalarOf unicodeOf plainEscape escapeOf pieceOf codesFrom utf8 encode halved textOf
 pieces-count = refl
 
 braces-stay : finalBytes (bytes "a{{b}}c}") ≡ some (bytes "a{b}c}")
-unfolding bytes byteAt choose escapeOf pieceOf codesFrom utf8 encode halved
+unfolding bytes byteAt escapeOf pieceOf codesFrom utf8 encode halved
 braces-stay = refl

@@ -1,13 +1,12 @@
 -- A piece of text counted code point by code point.
 use mathlib.Core.Path.{_≡_, refl, sym, ap, _∙_}
-use mathlib.Core.List.{List, [], _∷_, _++_}
+use mathlib.Core.List.{List, [], _∷_}
 use mathlib.Core.Option.{Option, none, some}
-use mathlib.Core.Bool.{Bool, true, false, _&&_}
+use mathlib.Core.Bool.{Bool, true, false, _&&_, cond}
 use Prim.Native.Nat.{ℕ, _+_, _-_, _≤_, _<_}
-use lib.Dec.{T, eqb, eqb→eq}
+use lib.Dec.{eqb, eqb→eq}
 use lib.ListN.{length, take, drop, length-append}
 use native.Mathlib.Omega.{arith}
-use Rattle.numbers.specs.Digits.{choose}
 use Rattle.strings.specs.declared.Piece.{Piece}
 use Rattle.strings.specs.declared.Size.{Size}
 use Rattle.strings.specs.Escapes.{pieceOf}
@@ -35,7 +34,7 @@ not-both : (c : ℕ) → eqb c open-brace ≡ true → eqb c close-brace ≡ tru
 not-both c p r = let a = eqb→eq c open-brace (rw p tt) in let b = eqb→eq c close-brace (rw r tt) in omega arith
 
 half-step : (n c : ℕ) (cs : List ℕ) (o l p r : Bool) → eqb c open-brace ≡ p → eqb c close-brace ≡ r → total (withCode (record { size = n; opened = o; closed = l }) c) cs ≡ n + length (encode (foldedBoth o l (c ∷ cs)))
-unfolding withCode folded choose
+unfolding withCode folded
 half-step n c cs o l true true p r = absurd (not-both c p r)
 half-step n c cs true true true false p r = rw p refl
 half-step n c cs true false true false p r = rw p refl
@@ -60,10 +59,10 @@ from-more h c (some cs) = ap Size.Is (half-step (h .size) c cs (h .opened) (h .c
 
 -- a code point adds its bytes at most
 with-most : (h : Halves) (c : ℕ) → (withCode h c) .size ≤ h .size + widthOf c
-unfolding withCode choose
+unfolding withCode
 with-most h c = go (h .opened && eqb c open-brace) (h .closed && eqb c close-brace)
   where
-    go : (a b : Bool) → (choose {A = Halves} a (record { size = h .size; opened = false; closed = h .closed }) (choose {A = Halves} b (record { size = h .size; opened = false; closed = false }) (record { size = h .size + widthOf c; opened = eqb c open-brace; closed = eqb c close-brace }))) .size ≤ h .size + widthOf c
+    go : (a b : Bool) → (cond {A = Halves} a (record { size = h .size; opened = false; closed = h .closed }) (cond {A = Halves} b (record { size = h .size; opened = false; closed = false }) (record { size = h .size + widthOf c; opened = eqb c open-brace; closed = eqb c close-brace }))) .size ≤ h .size + widthOf c
     go true b = omega arith
     go false true = omega arith
     go false false = omega arith

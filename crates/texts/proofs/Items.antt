@@ -2,13 +2,12 @@
 use mathlib.Core.Path.{_≡_, refl, sym, ap, subst, _∙_}
 use mathlib.Core.List.{List, [], _∷_}
 use mathlib.Core.Option.{Option, none, some}
-use mathlib.Core.Bool.{Bool, true, false, _||_}
+use mathlib.Core.Bool.{Bool, true, false, _||_, cond}
 use Prim.Native.Nat.{ℕ, suc, _+_, _-_, _≤_}
 use lib.Dec.{eqb, eqb→eq}
 use lib.ListN.{length, drop, length-drop, drop-of-length-le}
 use native.Mathlib.Decide.{decLe}
 use native.Mathlib.Omega.{arith}
-use Rattle.chars.specs.Chars.{pick}
 use Rattle.texts.specs.declared.Mode.{Mode}
 use Rattle.texts.specs.declared.Mode.the-variants.{Text, Escape, Letter, Code, Brace, Hole, Last, Torn}
 use Rattle.texts.specs.declared.Part.{Part}
@@ -39,7 +38,7 @@ module _ (top : ℕ) (count : List ℕ) (at b : ℕ) (l : List ℕ) where
   unfolding modesFrom modeAfter pastClose
   in-code h k = go (eqb b close-brace)
     where
-      go : (t : Bool) → modesFrom (pick t Text Code) (at + 1) l ≡ behind top count (elim t [ true ↦ some l | false ↦ pastClose l ])
+      go : (t : Bool) → modesFrom (cond t Text Code) (at + 1) l ≡ behind top count (elim t [ true ↦ some l | false ↦ pastClose l ])
       go true = h
       go false = k
 
@@ -50,7 +49,7 @@ module _ (top : ℕ) (count : List ℕ) (at b : ℕ) (l : List ℕ) where
       past : Option (List ℕ) → Option (List ℕ)
       past o = elim o [ none ↦ none | some inside ↦ pastClose inside ]
 
-      go : (t : Bool) → modesFrom (pick t Code Torn) (at + 1) l ≡ behind top count (past (elim t [ true ↦ some l | false ↦ none ]))
+      go : (t : Bool) → modesFrom (cond t Code Torn) (at + 1) l ≡ behind top count (past (elim t [ true ↦ some l | false ↦ none ]))
       go true = k
       go false = stays Torn (at + 1) l refl
 
@@ -58,7 +57,7 @@ module _ (top : ℕ) (count : List ℕ) (at b : ℕ) (l : List ℕ) where
   unfolding modesFrom modeAfter pastEscape
   in-escape h k = go (eqb b small-u || eqb b capital-u)
     where
-      go : (t : Bool) → modesFrom (pick t Letter Text) (at + 1) l ≡ behind top count (elim t [ true ↦ pastCode l | false ↦ some l ])
+      go : (t : Bool) → modesFrom (cond t Letter Text) (at + 1) l ≡ behind top count (elim t [ true ↦ pastCode l | false ↦ some l ])
       go true = k
       go false = h
 
@@ -70,7 +69,7 @@ module _ (top : ℕ) (count : List ℕ) (at b : ℕ) (l : List ℕ) where
       upTo : Option (List ℕ) → List ℕ
       upTo o = elim o [ none ↦ open-brace ∷ b ∷ l | some rest ↦ pastItems count rest ]
 
-      go : (t : Bool) → modesFrom (pick t Text Hole) (at + 1) l ≡ within top (upTo (elim t [ true ↦ some l | false ↦ none ]))
+      go : (t : Bool) → modesFrom (cond t Text Hole) (at + 1) l ≡ within top (upTo (elim t [ true ↦ some l | false ↦ none ]))
       go true = h
       go false = stays Hole (at + 1) l refl ∙ ap Before (omega (arith, e))
 
@@ -99,7 +98,7 @@ module _ (top : ℕ) (count : List ℕ) (at x : ℕ) (l : List ℕ) where
   unfolding modesFrom modeAfter pastItem pastItems
   at-byte b p q r h = ap (λ (m : Mode). modesFrom m (at + 1) l) mode ∙ h ∙ sym (ap (λ (o : Option (List ℕ)). within top (elim o [ none ↦ b ∷ l | some rest ↦ pastItems count rest ])) item)
     where
-      mode : pick (eqb b backslash) Escape (pick (eqb b open-brace) Brace (pick (eqb b quote) Last Text)) ≡ Text
+      mode : cond (eqb b backslash) Escape (cond (eqb b open-brace) Brace (cond (eqb b quote) Last Text)) ≡ Text
       mode = rw (p, q, r) refl
 
       none-of : (t u v : Bool) → t ≡ false → u ≡ false → v ≡ false → elim t [ true ↦ pastEscape l | false ↦ elim u [ true ↦ pastOpen l | false ↦ elim v [ true ↦ none | false ↦ some l ] ] ] ≡ some l

@@ -1,15 +1,14 @@
 -- How the code's scan for the end of a piece follows its modes, byte by byte.
 use mathlib.Core.Path.{_≡_, refl, sym, ap, subst, _∙_}
-use mathlib.Core.List.{List, [], _∷_}
+use mathlib.Core.List.{List, _∷_}
 use mathlib.Core.Logic.{_⊎_, inl, inr}
-use mathlib.Core.Bool.{Bool, true, false, _&&_}
+use mathlib.Core.Bool.{Bool, true, false, _&&_, cond}
 use Prim.Native.Nat.{ℕ, suc, _+_, _<_}
 use borrow.Author.Tests.{ltb-true, ltb-false}
 use lib.Dec.{T, ltb}
 use lib.ListN.{length, getD, drop, drop-of-length-le}
 use lib.Seq.{drop-cons}
 use native.Mathlib.Omega.{arith}
-use Rattle.chars.specs.Chars.{pick}
 use Rattle.texts.specs.declared.Mode.{Mode}
 use Rattle.texts.specs.declared.Mode.the-variants.{Text}
 use Rattle.texts.specs.declared.Part.{Part}
@@ -17,10 +16,10 @@ use Rattle.texts.specs.Parts.{partAt}
 use Rattle.texts.specs.Modes.{modeAfter, scans, endedAt, modesFrom}
 use Rattle.texts.proofs.Items.{stays, modes-part}
 
-pub first : {A : Type 0} {t : Bool} {a x : A} (b : A) → t ≡ true → x ≡ a → x ≡ pick t a b
+pub first : {A : Type 0} {t : Bool} {a x : A} (b : A) → t ≡ true → x ≡ a → x ≡ cond t a b
 first b h g = rw h g
 
-pub second : {A : Type 0} {t : Bool} (a : A) {b x : A} → t ≡ false → x ≡ b → x ≡ pick t a b
+pub second : {A : Type 0} {t : Bool} (a : A) {b x : A} → t ≡ false → x ≡ b → x ≡ cond t a b
 second a h g = rw h g
 
 -- a mode by its name

@@ -1,16 +1,15 @@
 -- Pairs halved byte by byte: of two braces in a row the second goes.
 use mathlib.Core.Path.{_≡_, refl, sym, ap, subst, _∙_}
 use mathlib.Core.List.{List, [], _∷_}
-use mathlib.Core.Bool.{Bool, true, false, _&&_}
+use mathlib.Core.Bool.{Bool, true, false, _&&_, cond}
 use Prim.Native.Nat.{ℕ}
 use lib.Dec.{T, eqb, eqb→eq, eqb-refl}
-use Rattle.numbers.specs.Digits.{choose}
 use Rattle.texts.specs.Texts.{halved}
 
 -- the flag: the byte before is a brace that stays and has no second yet
 unfoldable pub folded : ℕ → Bool → List ℕ → List ℕ
 folded brace had [] = []
-folded brace true (c ∷ cs) = let rest : List ℕ = folded brace false cs in choose (eqb c brace) rest (c ∷ rest)
+folded brace true (c ∷ cs) = let rest : List ℕ = folded brace false cs in cond (eqb c brace) rest (c ∷ rest)
 folded brace false (c ∷ cs) = c ∷ folded brace (eqb c brace) cs
 
 module _ (brace : ℕ) where
@@ -32,10 +31,10 @@ module _ (brace : ℕ) where
       go false e = ap (λ (l : List ℕ). c ∷ l) h ∙ apart c cs e
 
   second-goes : (c : ℕ) (cs : List ℕ) → folded brace false cs ≡ halved brace cs → brace ∷ folded brace true (c ∷ cs) ≡ halved brace (brace ∷ c ∷ cs)
-  unfolding folded halved choose
+  unfolding folded halved
   second-goes c cs h = go (eqb brace brace) (eqb-refl brace) (eqb c brace) refl
     where
-      go : (a : Bool) → T a → (t : Bool) → eqb c brace ≡ t → brace ∷ choose t (folded brace false cs) (c ∷ folded brace false cs) ≡ elim (a && t) [ true ↦ brace ∷ halved brace cs | false ↦ brace ∷ halved brace (c ∷ cs) ]
+      go : (a : Bool) → T a → (t : Bool) → eqb c brace ≡ t → brace ∷ cond t (folded brace false cs) (c ∷ folded brace false cs) ≡ elim (a && t) [ true ↦ brace ∷ halved brace cs | false ↦ brace ∷ halved brace (c ∷ cs) ]
       go true u true e = ap (λ (l : List ℕ). brace ∷ l) h
       go true u false e = ap (λ (l : List ℕ). brace ∷ l) (ap (λ (l : List ℕ). c ∷ l) h ∙ apart c cs e)
       go false u t e = absurd u

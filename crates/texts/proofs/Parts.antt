@@ -1,13 +1,12 @@
 -- A piece of text lies in the source, and something stands behind it: the `{` of a hole and a byte, or the quote.
-use mathlib.Core.Path.{_≡_, refl, sym, ap, subst}
+use mathlib.Core.Path.{_≡_, sym, subst}
 use mathlib.Core.List.{List, [], _∷_}
-use mathlib.Core.Bool.{Bool, true, false, _||_}
+use mathlib.Core.Bool.{Bool, true, false, _||_, cond}
 use Prim.Native.Nat.{ℕ, suc, _+_, _-_, _≤_}
 use lib.Dec.{eqb}
 use lib.ListN.{length, drop, length-drop, drop-of-length-le}
 use native.Mathlib.Decide.{decLe}
 use native.Mathlib.Omega.{arith}
-use Rattle.chars.specs.Chars.{pick}
 use Rattle.texts.specs.declared.Mode.{Mode}
 use Rattle.texts.specs.declared.Mode.the-variants.{Text, Escape, Letter, Code, Brace, Hole, Last, Torn}
 use Rattle.texts.specs.declared.Part.{Part}
@@ -33,13 +32,13 @@ least Hole = 2
 least Last = 1
 least Torn = 0
 
-of-two : {n : ℕ} (b : Bool) (x y : Mode) → least x ≤ n → least y ≤ n → least (pick b x y) ≤ n
+of-two : {n : ℕ} (b : Bool) (x y : Mode) → least x ≤ n → least y ≤ n → least (cond b x y) ≤ n
 of-two true x y h k = h
 of-two false x y h k = k
 
 least-after : (m : Mode) (b : ℕ) → least (modeAfter m b) ≤ least m + 1
 unfolding modeAfter
-least-after Text b = of-two (eqb b backslash) Escape (pick (eqb b open-brace) Brace (pick (eqb b quote) Last Text)) (omega arith) (of-two (eqb b open-brace) Brace (pick (eqb b quote) Last Text) (omega arith) (of-two (eqb b quote) Last Text (omega arith) (omega arith)))
+least-after Text b = of-two (eqb b backslash) Escape (cond (eqb b open-brace) Brace (cond (eqb b quote) Last Text)) (omega arith) (of-two (eqb b open-brace) Brace (cond (eqb b quote) Last Text) (omega arith) (of-two (eqb b quote) Last Text (omega arith) (omega arith)))
 least-after Escape b = of-two (eqb b small-u || eqb b capital-u) Letter Text (omega arith) (omega arith)
 least-after Letter b = of-two (eqb b open-brace) Code Torn (omega arith) (omega arith)
 least-after Code b = of-two (eqb b close-brace) Text Code (omega arith) (omega arith)

@@ -2,9 +2,8 @@
 -- `modes-part` of proofs/Items.antt says that it gives `partAt`.
 use Prim.Native.Nat.{ℕ, _+_, _-_}
 use mathlib.Core.List.{List, [], _∷_}
-use mathlib.Core.Bool.{Bool, true, false, _||_}
+use mathlib.Core.Bool.{Bool, true, false, _||_, cond}
 use lib.Dec.{eqb}
-use Rattle.chars.specs.Chars.{pick}
 use Rattle.texts.specs.declared.Mode.{Mode}
 use Rattle.texts.specs.declared.Mode.the-variants.{Text, Escape, Letter, Code, Brace, Hole, Last, Torn}
 use Rattle.texts.specs.declared.Part.{Part}
@@ -13,11 +12,11 @@ use Rattle.texts.specs.Signs.{backslash, quote, open-brace, close-brace,
 
 -- how the text stands behind one more byte
 unfoldable pub modeAfter : Mode → ℕ → Mode
-modeAfter Text b = pick (eqb b backslash) Escape (pick (eqb b open-brace) Brace (pick (eqb b quote) Last Text))
-modeAfter Escape b = pick (eqb b small-u || eqb b capital-u) Letter Text
-modeAfter Letter b = pick (eqb b open-brace) Code Torn
-modeAfter Code b = pick (eqb b close-brace) Text Code
-modeAfter Brace b = pick (eqb b open-brace) Text Hole
+modeAfter Text b = cond (eqb b backslash) Escape (cond (eqb b open-brace) Brace (cond (eqb b quote) Last Text))
+modeAfter Escape b = cond (eqb b small-u || eqb b capital-u) Letter Text
+modeAfter Letter b = cond (eqb b open-brace) Code Torn
+modeAfter Code b = cond (eqb b close-brace) Text Code
+modeAfter Brace b = cond (eqb b open-brace) Text Hole
 modeAfter Hole b = Hole
 modeAfter Last b = Last
 modeAfter Torn b = Torn

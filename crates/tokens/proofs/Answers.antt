@@ -8,10 +8,9 @@ use borrow.Author.Tests.{lt-ltb, le-ltb, eq-eqb, ne-eqb}
 use Rattle.chars.specs.declared.Class.the-variants.{Ascii}
 use Rattle.chars.specs.Chars.{isClass}
 use Rattle.chars.specs.Runs.{pastRun}
-use Rattle.tokens.specs.declared.Token.{Token}
 use Rattle.tokens.specs.declared.Cursor.{Cursor}
 use Rattle.tokens.specs.declared.Refusal.{Refusal}
-use Rattle.tokens.specs.declared.Answer.{Answer}
+use Rattle.chars.specs.declared.Answer.{Answer}
 use Rattle.tokens.specs.declared.Step.{Step}
 use Rattle.tokens.specs.declared.Step.the-variants.{Taken, Refused}
 use Rattle.tokens.specs.declared.Whole.{Whole}
@@ -40,7 +39,7 @@ module _ (s : List ℕ) {r : Whole} where
       whole-fine h e = rw (← to) (second _ (le-ltb _ _ short) (second _ (le-ltb _ _ low) (second _ h e)))
 
 module _ (step : Step) (len count room : ℕ) {r : Answer} where
-  pub last-taken : {t : Token} {w : ℕ} {next : Cursor} → step ≡ Taken t w next → r ≡ counted len count room → r ≡ lastOf step len count room
+  pub last-taken : {w a : ℕ} {next : Cursor} → step ≡ Taken w a next → r ≡ counted len count room → r ≡ lastOf step len count room
   unfolding lastOf
   last-taken e h = rw e h
 

@@ -2,7 +2,7 @@
 use mathlib.Core.Path.{_≡_, refl, sym, ap, _∙_, subst}
 use Prim.Native.Nat.{ℕ, suc, _+_, _-_, _<_, _≤_}
 use mathlib.Core.List.{List, _∷_}
-use mathlib.Core.Bool.{Bool, true, false, _&&_}
+use mathlib.Core.Bool.{Bool, true, false, _&&_, cond}
 use native.Mathlib.Nat.{add-zero, add-suc, suc-add}
 use native.Mathlib.Numerals.{add-one}
 use native.Mathlib.Decide.{decLt}
@@ -12,7 +12,7 @@ use lib.Seq.{drop-cons}
 use lib.Dec.{eqb, ltb}
 use borrow.Author.Tests.{lt-ltb, le-ltb}
 use Rattle.chars.specs.declared.Class.the-variants.{Blank, Line}
-use Rattle.chars.specs.Chars.{pick, byteAt, isBlank, isClass}
+use Rattle.chars.specs.Chars.{byteAt, isBlank, isClass}
 use Rattle.chars.specs.Runs.{pastRun}
 use Rattle.chars.proofs.Runs.{byte-in, byte-drop, within, inside, outside, past-ge, past-more, past-stops, through}
 use Rattle.tokens.specs.Blanks.{skipped, skipAll, pastComment}
@@ -35,10 +35,10 @@ outside-other b l {t} e h =
     subst (λ u. _≡_ {A = ℕ} (elim u [ true ↦ suc (skipped false l) | false ↦ elim (eqb b 47 && eqb (byteAt l 0) 47) [ true ↦ suc (skipped true l) | false ↦ 0 ] ]) (elim t [ true ↦ suc (skipped true l) | false ↦ 0 ])) (sym e)
     (ap (λ (u : Bool). elim u [ true ↦ suc (skipped true l) | false ↦ 0 ]) h)
 
-at-least : (e n : ℕ) → e ≤ pick (ltb e n) (e + 1) e
+at-least : (e n : ℕ) → e ≤ cond (ltb e n) (e + 1) e
 at-least e n = go (ltb e n)
   where
-    go : (t : Bool) → e ≤ pick t (e + 1) e
+    go : (t : Bool) → e ≤ cond t (e + 1) e
     go true = omega arith
     go false = omega arith
 
@@ -64,14 +64,14 @@ module _ (s : List ℕ) where
       rw (at-front i (inside s i refl (pair-first s i 47 47 e) (omega arith)), outside-other (byteAt s i) (drop (suc i) s) {t = true} (ap isBlank (pair-first s i 47 47 e)) (rw look-ahead e), add-one) (simp (add-suc, suc-add))
 
   -- past a comment's line nothing is inside it
-  skip-ended : (e : ℕ) → isClass Line (byteAt s e) ≡ false → skipIn s e ≡ skipAll s (pick (ltb e (length s)) (e + 1) e)
+  skip-ended : (e : ℕ) → isClass Line (byteAt s e) ≡ false → skipIn s e ≡ skipAll s (cond (ltb e (length s)) (e + 1) e)
   unfolding skipAll skipIn skipped
   skip-ended e f = elim (decLt e (length s)) [ yes h ↦ newline h | no k ↦ the-end (omega (arith, k)) ]
     where
-      newline : e < length s → skipIn s e ≡ skipAll s (pick (ltb e (length s)) (e + 1) e)
+      newline : e < length s → skipIn s e ≡ skipAll s (cond (ltb e (length s)) (e + 1) e)
       newline h = rw (lt-ltb _ _ h, at-front e h, f, add-one) (simp (add-suc, suc-add))
 
-      the-end : length s ≤ e → skipIn s e ≡ skipAll s (pick (ltb e (length s)) (e + 1) e)
+      the-end : length s ≤ e → skipIn s e ≡ skipAll s (cond (ltb e (length s)) (e + 1) e)
       the-end h = rw (le-ltb _ _ h, drop-of-length-le s {i = e} h) refl
 
   pub skip-comment : (i : ℕ) → pairAt s i 47 47 ≡ true → skipAll s (pastComment s i) ≡ skipAll s i

@@ -2,10 +2,10 @@
 use mathlib.Core.Path.{_≡_, refl, sym, ap, _∙_}
 use Prim.Native.Nat.{ℕ}
 use mathlib.Core.List.{List}
-use mathlib.Core.Bool.{Bool, true, false, _&&_, not}
+use mathlib.Core.Bool.{Bool, true, false, _&&_, not, cond}
 use lib.Dec.{eqb}
 use borrow.Author.Tests.{eq-eqb, ne-eqb}
-use Rattle.chars.specs.Chars.{byteAt, pick}
+use Rattle.chars.specs.Chars.{byteAt}
 use Rattle.tokens.specs.declared.Fit.{Fit}
 use Rattle.tokens.specs.declared.Fit.the-variants.{To, No}
 use Rattle.tokens.specs.declared.Step.{Step}
@@ -68,8 +68,8 @@ pub miss : {f : Fit} (at : ℕ) {d x : Step} → f ≡ No → x ≡ d → x ≡ 
 unfolding orElse
 miss at h g = rw h g
 
-pub first : {A : Type 0} {t : Bool} {a x : A} (b : A) → t ≡ true → x ≡ a → x ≡ pick t a b
+pub first : {A : Type 0} {t : Bool} {a x : A} (b : A) → t ≡ true → x ≡ a → x ≡ cond t a b
 first b h g = rw h g
 
-pub second : {A : Type 0} {t : Bool} (a : A) {b x : A} → t ≡ false → x ≡ b → x ≡ pick t a b
+pub second : {A : Type 0} {t : Bool} (a : A) {b x : A} → t ≡ false → x ≡ b → x ≡ cond t a b
 second a h g = rw h g

@@ -5,27 +5,26 @@ use mathlib.Core.List.{List, []}
 use native.Mathlib.Nat.{add-zero}
 use native.Mathlib.Omega.{arith}
 use lib.ListN.{length}
-use Rattle.tokens.specs.declared.Token.{Token}
 use Rattle.tokens.specs.declared.Cursor.{Cursor}
 use Rattle.tokens.specs.declared.Refusal.{Refusal}
-use Rattle.tokens.specs.declared.Answer.{Answer}
+use Rattle.chars.specs.declared.Answer.{Answer}
 use Rattle.tokens.specs.declared.Step.{Step}
 use Rattle.tokens.specs.declared.Step.the-variants.{Taken, Refused}
 use Rattle.tokens.specs.declared.Whole.{Whole}
 use Rattle.tokens.specs.declared.Whole.the-variants.{Fine, Refused as Bad}
-use Rattle.tokens.specs.Tokens.{stepAt, wholeOf, Listed, more, listFrom, listOf, refusal, lastOf, answerOf}
+use Rattle.tokens.specs.Tokens.{stepAt, wholeOf, Listed, tokenOf, more, listFrom, listOf, refusal, lastOf, answerOf}
 use Rattle.tokens.proofs.Steps.{taken-good}
 
 module _ (n : ℕ) (s : List ℕ) (at : ℕ) where
-  pub list-taken : {t : Token} {w : ℕ} {next : Cursor} → stepAt s at ≡ Taken t w next → listFrom (suc n) s at ≡ more t (listFrom n s (next .at))
+  pub list-taken : {w a : ℕ} {next : Cursor} → stepAt s at ≡ Taken w a next → listFrom (suc n) s at ≡ more (tokenOf w a next) (listFrom n s (next .at))
   unfolding listFrom
-  list-taken {t} {w} {next} e =
-      ap (λ (x : Step). elim x [ Taken t w next ↦ more t (listFrom n s (next .at)) | Refused r ↦ record { tokens = []; ending = r } ]) e
+  list-taken e =
+      ap (λ (x : Step). elim x [ Taken w a next ↦ more (tokenOf w a next) (listFrom n s (next .at)) | Refused r ↦ record { tokens = []; ending = r } ]) e
 
   pub list-refused : {r : Refusal} → stepAt s at ≡ Refused r → listFrom (suc n) s at ≡ record { tokens = []; ending = r }
   unfolding listFrom
   list-refused e =
-      ap (λ (x : Step). elim x [ Taken t w next ↦ more t (listFrom n s (next .at)) | Refused r ↦ record { tokens = []; ending = r } ]) e
+      ap (λ (x : Step). elim x [ Taken w a next ↦ more (tokenOf w a next) (listFrom n s (next .at)) | Refused r ↦ record { tokens = []; ending = r } ]) e
 
 -- any bound that is large enough gives the same list
 pub enough : (n m : ℕ) (s : List ℕ) (at : ℕ) → at ≤ length s → length s < at + n → length s < at + m → listFrom n s at ≡ listFrom m s at
@@ -34,9 +33,9 @@ enough (suc n) zero s at k h g = absurd (omega (arith, k, g))
 enough (suc n) (suc m) s at k h g = go (stepAt s at) refl λ next. enough n m s next
   where
     go : (x : Step) → stepAt s at ≡ x → ((next : ℕ) → next ≤ length s → length s < next + n → length s < next + m → listFrom n s next ≡ listFrom m s next) → listFrom (suc n) s at ≡ listFrom (suc m) s at
-    go (Taken t w next) e rest =
-        let f : ((at ≤ t .start) × (t .start < t .end)) × ((t .end ≤ length s) × (next .at ≡ t .end)) = taken-good s at e in
-        list-taken n s at e ∙ ap (more t) (rest (next .at) (omega (arith, f)) (omega (arith, f, h)) (omega (arith, f, g))) ∙ sym (list-taken m s at e)
+    go (Taken w a next) e rest =
+        let f : (at ≤ a) × (a < next .at) × (next .at ≤ length s) = taken-good s at e in
+        list-taken n s at e ∙ ap (more (tokenOf w a next)) (rest (next .at) (omega (arith, f)) (omega (arith, f, h)) (omega (arith, f, g))) ∙ sym (list-taken m s at e)
     go (Refused r) e rest = list-refused n s at e ∙ sym (list-refused m s at e)
 
 -- the tokens from a place on, with a bound that is large enough
@@ -59,11 +58,11 @@ module _ (s : List ℕ) where
       same-list = enough (length s + 1) (suc (length s - 0)) s 0 (omega arith) (omega arith) (omega arith)
 
   module _ {at count : ℕ} (k : Counted s at count) {x : Step} (answered : x ≡ stepAt s at) where
-    pub one-counted : {t : Token} {w : ℕ} {next : Cursor} → x ≡ Taken t w next → Counted s (next .at) (count + 1) × (at < next .at)
+    pub one-counted : {w a : ℕ} {next : Cursor} → x ≡ Taken w a next → Counted s (next .at) (count + 1) × (at < next .at)
     unfolding listAt
-    one-counted {t} {w} {next} e =
-        let f : ((at ≤ t .start) × (t .start < t .end)) × ((t .end ≤ length s) × (next .at ≡ t .end)) = taken-good s at (sym answered ∙ e) in
-        let here : listAt s at ≡ more t (listAt s (next .at)) = list-taken (length s - at) s at (sym answered ∙ e) ∙ ap (more t) (enough (length s - at) (suc (length s - next .at)) s (next .at) (omega (arith, f)) (omega (arith, f)) (omega (arith, f))) in
+    one-counted {w} {a} {next} e =
+        let f : (at ≤ a) × (a < next .at) × (next .at ≤ length s) = taken-good s at (sym answered ∙ e) in
+        let here : listAt s at ≡ more (tokenOf w a next) (listAt s (next .at)) = list-taken (length s - at) s at (sym answered ∙ e) ∙ ap (more (tokenOf w a next)) (enough (length s - at) (suc (length s - next .at)) s (next .at) (omega (arith, f)) (omega (arith, f)) (omega (arith, f))) in
         (record { inside = omega (arith, f); fewer = omega (arith, f, k .fewer); so-far = k .so-far ∙ ap (λ l. count + length (l .tokens)) here ∙ omega arith; ending = k .ending ∙ ap (λ l. l .ending) here }, omega (arith, f))
 
     pub all-counted : {r : Refusal} (room : ℕ) → x ≡ Refused r → wholeOf s ≡ Fine → {a : Answer} → a ≡ lastOf x (length s) count room → a ≡ answerOf s room

@@ -2,14 +2,14 @@
 use mathlib.Core.Path.{_≡_, refl, sym, ap, ap₂, _∙_}
 use Prim.Native.Nat.{ℕ, _+_, _-_, _<_, _≤_}
 use mathlib.Core.List.{List, []}
-use mathlib.Core.Bool.{Bool, true, false, _&&_, _||_, not}
+use mathlib.Core.Bool.{Bool, true, false, _&&_, _||_, not, cond}
 use native.Mathlib.Decide.{decLt}
 use native.Mathlib.Omega.{arith}
 use lib.ListN.{length, getD}
 use lib.Dec.{eqb}
 use borrow.Author.Tests.{lt-ltb, le-ltb, ne-eqb, eqb-true}
 use Rattle.chars.specs.declared.Class.the-variants.{Line, Digit, Figure, HexDigit, HexColon, NamePart}
-use Rattle.chars.specs.Chars.{pick, byteAt, isClass, isDigit}
+use Rattle.chars.specs.Chars.{byteAt, isClass, isDigit}
 use Rattle.chars.specs.Texts.{same}
 use Rattle.chars.specs.Runs.{pastSpan, pastRun, behindLast}
 use Rattle.chars.proofs.Runs.{byte-in, byte-out, inside, within, span-more, span-done}
@@ -77,18 +77,18 @@ module _ (s : List ℕ) (at : ℕ) where
   ipv6-none h = ends _ h
 
   module _ {e w : ℕ} (to : colonsAt s at ≡ To e w) where
-    ending : {t : Bool} {f x : Fit} → decimalGroup s e ≡ t → threeAt s e ≡ f → x ≡ orTo (pick t f No) e → x ≡ ipv6At s at
+    ending : {t : Bool} {f x : Fit} → decimalGroup s e ≡ t → threeAt s e ≡ f → x ≡ orTo (cond t f No) e → x ≡ ipv6At s at
     unfolding ipv6At
     ending h g k = goes-on _ to (rw (h, g) k)
 
-    stays : (t : Bool) (f : Fit) → pick t f No ≡ No → To e 1 ≡ orTo (pick t f No) e
+    stays : (t : Bool) (f : Fit) → cond t f No ≡ No → To e 1 ≡ orTo (cond t f No) e
     unfolding orTo
     stays t f h = rw h
 
     pub ipv6-three : threeAt s e ≡ No → To e 1 ≡ ipv6At s at
     ipv6-three h = ending refl h (stays (decimalGroup s e) No (go (decimalGroup s e)))
       where
-        go : (t : Bool) → pick t No No ≡ No
+        go : (t : Bool) → cond t No No ≡ No
         go true = refl
         go false = refl
 

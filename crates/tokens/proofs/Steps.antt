@@ -2,7 +2,7 @@
 use mathlib.Core.Path.{_≡_, refl, ap, _∙_, subst}
 use Prim.Native.Nat.{ℕ, _+_, _-_, _<_, _≤_}
 use mathlib.Core.List.{List}
-use mathlib.Core.Bool.{Bool, true, false, _&&_, _||_}
+use mathlib.Core.Bool.{Bool, true, false, _&&_, _||_, cond}
 use native.Mathlib.Decide.{decLt}
 use native.Mathlib.Omega.{arith}
 use lib.ListN.{length}
@@ -10,13 +10,12 @@ use lib.Seq.{slice}
 use lib.Dec.{eqb, ltb}
 use borrow.Author.Tests.{lt-ltb, le-ltb, ltb-true, eqb-true, eqb-false, not-true}
 use Rattle.chars.specs.declared.Class.the-variants.{Digit, Figure, HexDigit, HexColon, NamePart}
-use Rattle.chars.specs.Chars.{pick, byteAt, isClass, isDigit}
+use Rattle.chars.specs.Chars.{byteAt, isClass, isDigit}
 use Rattle.chars.specs.Texts.{same}
 use Rattle.chars.specs.Runs.{pastSpan, pastRun}
 use Rattle.chars.proofs.Runs.{byte-out, inside, within, outside, span-ge, past-ge, past-le, past-gt}
 use Rattle.tokens.specs.declared.Fit.{Fit}
 use Rattle.tokens.specs.declared.Fit.the-variants.{To, No}
-use Rattle.tokens.specs.declared.Token.{Token}
 use Rattle.tokens.specs.declared.Cursor.{Cursor}
 use Rattle.tokens.specs.declared.Step.{Step}
 use Rattle.tokens.specs.declared.Step.the-variants.{Taken, Refused}
@@ -113,8 +112,8 @@ module _ (s : List ℕ) (at : ℕ) where
   unfolding numberAt isClass
   number-good =
       let whole : ℕ = pastRun (isClass Figure) s at in
-      let e : ℕ = pick (fractionAt s whole) (pastRun (isClass Figure) s (whole + 1)) whole in
-      when-good s at (isDigit (byteAt s at)) (pastRun (isClass NamePart) s e) (pick (fractionAt s whole) 8 7) λ t.
+      let e : ℕ = cond (fractionAt s whole) (pastRun (isClass Figure) s (whole + 1)) whole in
+      when-good s at (isDigit (byteAt s at)) (pastRun (isClass NamePart) s e) (cond (fractionAt s whole) 8 7) λ t.
       let h : at < length s = within isDigit refl s at t in
       let g : at < whole = past-gt (isClass Figure) (outside Figure) s at (or-left (isDigit (byteAt s at)) (eqb (byteAt s at) 95) t) in
       let k : whole ≤ length s = past-le (isClass Figure) s at (omega (arith, h)) in
@@ -124,7 +123,7 @@ module _ (s : List ℕ) (at : ℕ) where
       or-left : (a b : Bool) → a ≡ true → (a || b) ≡ true
       or-left a b h = rw h
 
-      fraction : (whole : ℕ) → whole ≤ length s → (t : Bool) → fractionAt s whole ≡ t → (whole ≤ pick t (pastRun (isClass Figure) s (whole + 1)) whole) × (pick t (pastRun (isClass Figure) s (whole + 1)) whole ≤ length s)
+      fraction : (whole : ℕ) → whole ≤ length s → (t : Bool) → fractionAt s whole ≡ t → (whole ≤ cond t (pastRun (isClass Figure) s (whole + 1)) whole) × (cond t (pastRun (isClass Figure) s (whole + 1)) whole ≤ length s)
       fraction whole k true f = (omega (arith, past-ge (isClass Figure) s (whole + 1)), past-le (isClass Figure) s (whole + 1) (omega (arith, fraction-in s whole f)))
       fraction whole k false f = (omega arith, k)
 
@@ -148,7 +147,7 @@ three-good s at =
     then-good s at (dottedAt s a) _ (wider s at a (omega (arith, h)) (dottedAt s a) (dotted-good s a)) λ b k k'.
     wider s at b (omega (arith, k)) (dottedAt s b) (dotted-good s b)
 
-ending-good : (s : List ℕ) (at e : ℕ) → at < e → e ≤ length s → (t : Bool) (f : Fit) → GoodFit s at f → GoodFit s at (orTo (pick t f No) e)
+ending-good : (s : List ℕ) (at e : ℕ) → at < e → e ≤ length s → (t : Bool) (f : Fit) → GoodFit s at f → GoodFit s at (orTo (cond t f No) e)
 unfolding orTo
 ending-good s at e h k true (To r w) g = g
 ending-good s at e h k true No g = (h, k)
@@ -170,15 +169,15 @@ ipv4-good s at =
 
 -- a token is not empty, lies in the source at or behind the cursor, and the next cursor stands at its end
 abbrev pub GoodStep : List ℕ → ℕ → Step → Type 0
-GoodStep s at (Taken t w next) = ((at ≤ t .start) × (t .start < t .end)) × ((t .end ≤ length s) × (next .at ≡ t .end))
+GoodStep s at (Taken w a next) = (at ≤ a) × (a < next .at) × (next .at ≤ length s)
 GoodStep s at (Refused r) = Unit {0}
 
 or-good : (s : List ℕ) (at a : ℕ) → at ≤ a → (f : Fit) → GoodFit s a f → (d : Step) → GoodStep s at d → GoodStep s at (orElse a f d)
 unfolding orElse taken
-or-good s at a h (To e w) k d g = ((h, k .0), (k .1, refl))
+or-good s at a h (To e w) k d g = (h, k .0, k .1)
 or-good s at a h No k d g = g
 
-pick-good : (s : List ℕ) (at : ℕ) (t : Bool) (a b : Step) → GoodStep s at a → GoodStep s at b → GoodStep s at (pick t a b)
+pick-good : (s : List ℕ) (at : ℕ) (t : Bool) (a b : Step) → GoodStep s at a → GoodStep s at b → GoodStep s at (cond t a b)
 pick-good s at true a b h k = h
 pick-good s at false a b h k = k
 
@@ -201,5 +200,5 @@ pub step-good : (s : List ℕ) (at : ℕ) → GoodStep s at (stepAt s at)
 unfolding stepAt refused skipAll
 step-good s at = pick-good s at (ltb (skipAll s at) (length s)) _ _ (token-good s at (skipAll s at) (omega arith)) tt
 
-pub taken-good : (s : List ℕ) (at : ℕ) {t : Token} {w : ℕ} {next : Cursor} → stepAt s at ≡ Taken t w next → ((at ≤ t .start) × (t .start < t .end)) × ((t .end ≤ length s) × (next .at ≡ t .end))
+pub taken-good : (s : List ℕ) (at : ℕ) {w a : ℕ} {next : Cursor} → stepAt s at ≡ Taken w a next → (at ≤ a) × (a < next .at) × (next .at ≤ length s)
 taken-good s at e = subst (GoodStep s at) e (step-good s at)

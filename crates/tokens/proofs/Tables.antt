@@ -2,11 +2,10 @@
 use mathlib.Core.Path.{_≡_, refl, sym, ap, _∙_}
 use Prim.Native.Nat.{ℕ}
 use mathlib.Core.List.{List, [], _∷_, _++_}
-use mathlib.Core.Bool.{Bool, true, false, _&&_, _||_, not, true≢false}
+use mathlib.Core.Bool.{Bool, true, false, _&&_, _||_, not, true≢false, cond}
 use lib.ListN.{length}
 use lib.Dec.{eqb}
 use borrow.Author.Tests.{ne-eqb, eqb-true, eqb-false, not-true}
-use Rattle.chars.specs.Chars.{pick}
 use Rattle.chars.specs.Texts.{same}
 use Rattle.tokens.specs.Words.{Entry, Line, wordIn, twoSigns, oneSigns, twoSign, oneSign, page, wordsOf, keywordOf, under, keywordUnder}
 use Rattle.tokens.proofs.Fits.{not-first, not-second}
@@ -49,15 +48,15 @@ placed (l ∷ ls) = all (long (l .letters)) (l .words) && placed ls
 word-append : (xs ys : List Entry) (t : List ℕ) (d : ℕ) → wordIn (xs ++ ys) t d ≡ wordIn xs t (wordIn ys t d)
 unfolding wordIn
 word-append [] ys t d = refl
-word-append (x ∷ xs) ys t d = ap (pick (same t (x .text)) (x .word)) (word-append xs ys t d)
+word-append (x ∷ xs) ys t d = ap (cond (same t (x .text)) (x .word)) (word-append xs ys t d)
 
 module _ (t : List ℕ) where
   -- the words of a line matter for texts of its length alone
-  on-line : (n : ℕ) (xs : List Entry) (d : ℕ) → all (long n) xs ≡ true → wordIn xs t d ≡ wordIn (pick (eqb (length t) n) xs []) t d
+  on-line : (n : ℕ) (xs : List Entry) (d : ℕ) → all (long n) xs ≡ true → wordIn xs t d ≡ wordIn (cond (eqb (length t) n) xs []) t d
   unfolding wordIn
   on-line n xs d h = go (eqb (length t) n) refl
     where
-      go : (b : Bool) → eqb (length t) n ≡ b → wordIn xs t d ≡ wordIn (pick b xs []) t d
+      go : (b : Bool) → eqb (length t) n ≡ b → wordIn xs t d ≡ wordIn (cond b xs []) t d
       go true e = refl
       go false e = none-is (long n) t d (λ x g. same-length t (x .text) (λ k. eqb-false _ _ e (k ∙ eqb-true _ _ g))) xs h
 
@@ -68,7 +67,7 @@ module _ (t : List ℕ) where
       word-append (l .words) (wordsOf ls) t d
       ∙ ap (wordIn (l .words) t) (by-length ls d (snd (all (long (l .letters)) (l .words)) (placed ls) h))
       ∙ on-line (l .letters) (l .words) (wordIn (under (length t) ls) t d) (fst (all (long (l .letters)) (l .words)) (placed ls) h)
-      ∙ sym (word-append (pick (eqb (length t) (l .letters)) (l .words) []) (under (length t) ls) t d)
+      ∙ sym (word-append (cond (eqb (length t) (l .letters)) (l .words) []) (under (length t) ls) t d)
 
   -- the page's rule, by computing the test
   pub page-by-length : keywordOf t ≡ keywordUnder (length t) t

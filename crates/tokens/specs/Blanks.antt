@@ -1,11 +1,11 @@
 -- "Skipped: bytes 9 to 13 and 32; `//` through its newline or the end."
 use Prim.Native.Nat.{ℕ, suc, _+_}
 use mathlib.Core.List.{List, [], _∷_}
-use mathlib.Core.Bool.{Bool, true, false, _&&_}
+use mathlib.Core.Bool.{Bool, true, false, _&&_, cond}
 use lib.ListN.{length, drop}
 use lib.Dec.{eqb, ltb}
 use Rattle.chars.specs.declared.Class.the-variants.{Line}
-use Rattle.chars.specs.Chars.{pick, byteAt, isBlank, isClass}
+use Rattle.chars.specs.Chars.{byteAt, isBlank, isClass}
 use Rattle.chars.specs.Runs.{pastRun}
 
 -- how many bytes at the front of a list are skipped, inside a comment or not
@@ -23,4 +23,4 @@ skipAll s at = at + skipped false (drop at s)
 
 -- past the newline of the line that a place is in, or at the end
 unfoldable pub pastComment : List ℕ → ℕ → ℕ
-pastComment s at = let e : ℕ = pastRun (isClass Line) s at in pick (ltb e (length s)) (e + 1) e
+pastComment s at = let e : ℕ = pastRun (isClass Line) s at in cond (ltb e (length s)) (e + 1) e

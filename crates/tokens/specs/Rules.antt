@@ -1,18 +1,18 @@
 -- "Then the first rule that fits; its number is the token's code."
 use Prim.Native.Nat.{ℕ, _+_}
 use mathlib.Core.List.{List}
-use mathlib.Core.Bool.{Bool, true, false, _&&_, _||_, not}
+use mathlib.Core.Bool.{Bool, true, false, _&&_, _||_, not, cond}
 use lib.ListN.{length}
 use lib.Seq.{slice}
 use lib.Dec.{eqb, ltb}
 use Rattle.chars.specs.declared.Class.the-variants.{Digit, Figure, HexDigit, HexColon, NamePart}
-use Rattle.chars.specs.Chars.{pick, byteAt, isClass, isDigit, isLetter}
+use Rattle.chars.specs.Chars.{byteAt, isClass, isDigit, isLetter}
 use Rattle.chars.specs.Runs.{pastSpan, pastRun, behindLast}
 use Rattle.tokens.specs.declared.Fit.{Fit}
 use Rattle.tokens.specs.declared.Fit.the-variants.{To, No}
 use Rattle.tokens.specs.declared.Step.{Step}
 use Rattle.tokens.specs.declared.Step.the-variants.{Taken, Refused}
-use Rattle.tokens.specs.Words.{twoSign, oneSign, nameWord, codeOf}
+use Rattle.tokens.specs.Words.{twoSign, oneSign, nameWord}
 
 -- to e, as the word w, where the test holds
 unfoldable pub whenFit : Bool → ℕ → ℕ → Fit
@@ -63,7 +63,7 @@ orTo No end = To end 1
 -- document 02, C-16: "when the last group of an IPv6 token is one or more decimal digits only and three times a period with decimal
 -- digits follows at once, the token runs to the end of the fourth number"
 unfoldable pub ipv6At : List ℕ → ℕ → Fit
-ipv6At s at = thenFit (colonsAt s at) λ e. orTo (pick (decimalGroup s e) (threeAt s e) No) e
+ipv6At s at = thenFit (colonsAt s at) λ e. orTo (cond (decimalGroup s e) (threeAt s e) No) e
 
 -- "digits+ `.`"
 unfoldable pub periodAt : List ℕ → ℕ → Fit
@@ -95,8 +95,8 @@ unfoldable pub numberAt : List ℕ → ℕ → Fit
 numberAt s at =
     let whole : ℕ = pastRun (isClass Figure) s at in
     let fraction : Bool = fractionAt s whole in
-    let e : ℕ = pick fraction (pastRun (isClass Figure) s (whole + 1)) whole in
-    whenFit (isDigit (byteAt s at)) (pastRun (isClass NamePart) s e) (pick fraction 8 7)
+    let e : ℕ = cond fraction (pastRun (isClass Figure) s (whole + 1)) whole in
+    whenFit (isDigit (byteAt s at)) (pastRun (isClass NamePart) s e) (cond fraction 8 7)
 
 -- inside a quote: a byte goes on where a backslash escapes it or it isn't the quote; a backslash escapes where it isn't escaped
 abbrev pub goesOn : ℕ → Bool → ℕ → Bool
@@ -120,9 +120,9 @@ nameAt s at =
     let e : ℕ = pastRun (isClass NamePart) s at in
     whenFit (isNameStart (byteAt s at)) e (nameWord (slice at e s))
 
--- the token from a place to an end that is a word, and the cursor behind it
+-- a word from a place to an end, and the cursor behind it
 unfoldable pub taken : ℕ → ℕ → ℕ → Step
-taken at e w = Taken (record { code = codeOf w; start = at; end = e }) w (record { at = e })
+taken at e w = Taken w at (record { at = e })
 
 unfoldable pub refused : ℕ → ℕ → ℕ → Step
 refused n a e = Refused (record { number = n; start = a; end = e })
@@ -143,7 +143,7 @@ tokenAt s at =
     (orElse at (asAt s at)
     (orElse at (hexAt s at)
     (orElse at (numberAt s at)
-    (pick (pairAt s at 102 34) (refused 5 at (at + 2))
+    (cond (pairAt s at 102 34) (refused 5 at (at + 2))
     (orElse at (quoteAt 34 9 s at)
     (orElse at (quoteAt 39 10 s at)
     (orElse at (nameAt s at)

@@ -1,24 +1,27 @@
 -- The next token at a place, the whole list, and the answer to a source.
+use mathlib.Core.Bool.{cond}
 use Prim.Native.Nat.{ℕ, zero, suc, _+_}
 use mathlib.Core.List.{List, [], _∷_}
 use lib.ListN.{length}
 use lib.Dec.{eqb, ltb, leb}
 use Rattle.chars.specs.declared.Class.the-variants.{Ascii}
-use Rattle.chars.specs.Chars.{pick, isClass}
+use Rattle.chars.specs.Chars.{isClass}
 use Rattle.chars.specs.Runs.{pastRun}
 use Rattle.tokens.specs.declared.Token.{Token}
+use Rattle.tokens.specs.declared.Cursor.{Cursor}
 use Rattle.tokens.specs.declared.Refusal.{Refusal}
-use Rattle.tokens.specs.declared.Answer.{Answer}
+use Rattle.chars.specs.declared.Answer.{Answer}
 use Rattle.tokens.specs.declared.Step.{Step}
 use Rattle.tokens.specs.declared.Step.the-variants.{Taken, Refused}
 use Rattle.tokens.specs.declared.Whole.{Whole}
 use Rattle.tokens.specs.declared.Whole.the-variants.{Fine, Refused as Bad}
+use Rattle.tokens.specs.Words.{codeOf}
 use Rattle.tokens.specs.Blanks.{skipAll}
 use Rattle.tokens.specs.Rules.{tokenAt, refused, pairAt}
 
 -- what stands at a place, behind what is skipped; at the end 11, "source ends too early: length, length"
 unfoldable pub stepAt : List ℕ → ℕ → Step
-stepAt s at = let a : ℕ = skipAll s at in pick (ltb a (length s)) (tokenAt s a) (refused 11 (length s) (length s))
+stepAt s at = let a : ℕ = skipAll s at in cond (ltb a (length s)) (tokenAt s a) (refused 11 (length s) (length s))
 
 abbrev pub bad : ℕ → ℕ → ℕ → Whole
 bad n a e = Bad (record { number = n; start = a; end = e })
@@ -27,9 +30,9 @@ bad n a e = Bad (record { number = n; start = a; end = e })
 unfoldable pub wholeOf : List ℕ → Whole
 wholeOf s =
     let high : ℕ = pastRun (isClass Ascii) s 0 in
-    pick (ltb 65535 (length s)) (bad 1 65535 65535)
-    (pick (ltb high (length s)) (bad 2 high (high + 1))
-    (pick (pairAt s 0 35 33) (bad 3 0 2)
+    cond (ltb 65535 (length s)) (bad 1 65535 65535)
+    (cond (ltb high (length s)) (bad 2 high (high + 1))
+    (cond (pairAt s 0 35 33) (bad 3 0 2)
     Fine))
 
 -- the tokens from a place on, and the refusal at which they end: 11 where the source does
@@ -40,10 +43,14 @@ pub record Listed : Type 0 where
 abbrev pub more : Token → Listed → Listed
 more t l = record { tokens = t ∷ l .tokens; ending = l .ending }
 
+-- "A token record has code, start, end": the code is the number of the rule
+abbrev pub tokenOf : ℕ → ℕ → Cursor → Token
+tokenOf w a next = record { code = codeOf w; start = a; end = next .at }
+
 -- token after token; no more than n, and no source has more tokens than bytes
 unfoldable pub listFrom : ℕ → List ℕ → ℕ → Listed
 listFrom zero s at = record { tokens = []; ending = record { number = 11; start = length s; end = length s } }
-listFrom (suc n) s at = elim (stepAt s at) [ Taken t w next ↦ more t (listFrom n s (next .at)) | Refused r ↦ record { tokens = []; ending = r } ]
+listFrom (suc n) s at = elim (stepAt s at) [ Taken w a next ↦ more (tokenOf w a next) (listFrom n s (next .at)) | Refused r ↦ record { tokens = []; ending = r } ]
 
 unfoldable pub listOf : List ℕ → Listed
 listOf s = listFrom (length s + 1) s 0
@@ -54,15 +61,15 @@ refusal r = record { number = r .number; start = r .start; end = r .end; count =
 -- "10 is given exactly when nothing else refuses and the count exceeds the room"; "0: accepted: 0, length"
 abbrev pub counted : ℕ → ℕ → ℕ → Answer
 counted len count room =
-    pick (leb count room) (record { number = 0; start = 0; end = len; count = count }) (record { number = 10; start = 0; end = 0; count = count })
+    cond (leb count room) (record { number = 0; start = 0; end = len; count = count }) (record { number = 10; start = 0; end = 0; count = count })
 
 abbrev pub ended : ℕ → Listed → ℕ → Answer
-ended len l room = pick (eqb (l .ending .number) 11) (counted len (length (l .tokens)) room) (refusal (l .ending))
+ended len l room = cond (eqb (l .ending .number) 11) (counted len (length (l .tokens)) room) (refusal (l .ending))
 
 -- where a step is the last
 unfoldable pub lastOf : Step → ℕ → ℕ → ℕ → Answer
-lastOf (Taken t w next) len count room = counted len count room
-lastOf (Refused r) len count room = pick (eqb (r .number) 11) (counted len count room) (refusal r)
+lastOf (Taken w a next) len count room = counted len count room
+lastOf (Refused r) len count room = cond (eqb (r .number) 11) (counted len count room) (refusal r)
 
 abbrev pub unless : Whole → Answer → Answer
 unless Fine a = a

@@ -1,9 +1,9 @@
 -- The words: which sign, which keyword, which kind of literal a token is. A word is a number, and has one code of document 01.
+use mathlib.Core.Bool.{cond}
 use Prim.Native.Nat.{ℕ}
 use Prim.Native.String.{String}
 use mathlib.Core.List.{List, [], _∷_, _++_}
 use lib.Dec.{eqb, ltb}
-use Rattle.chars.specs.Chars.{pick}
 use Rattle.chars.specs.Texts.{bytes, same}
 
 -- a text and the word that it is
@@ -61,7 +61,7 @@ keywords = ("true" is 12) ∷ ("false" is 12) ∷ wordsOf page
 -- the word that a text is in a table, or else another
 unfoldable pub wordIn : List Entry → List ℕ → ℕ → ℕ
 wordIn [] t d = d
-wordIn (x ∷ xs) t d = pick (same t (x .text)) (x .word) (wordIn xs t d)
+wordIn (x ∷ xs) t d = cond (same t (x .text)) (x .word) (wordIn xs t d)
 
 unfoldable pub twoSign : ℕ → ℕ → ℕ
 twoSign a b = wordIn twoSigns (a ∷ b ∷ []) 0
@@ -72,7 +72,7 @@ oneSign b = wordIn oneSigns (b ∷ []) 0
 -- a keyword, `true` or `false`, `_`, or another name
 unfoldable pub nameWord : List ℕ → ℕ
 unfolding bytes
-nameWord t = pick (same t (bytes "_")) 14 (wordIn keywords t 13)
+nameWord t = cond (same t (bytes "_")) 14 (wordIn keywords t 13)
 
 -- a keyword is a word of the page; another text is a name
 unfoldable pub keywordOf : List ℕ → ℕ
@@ -81,7 +81,7 @@ keywordOf t = wordIn (wordsOf page) t 13
 -- the words that a page has under a length
 unfoldable pub under : ℕ → List Line → List Entry
 under n [] = []
-under n (l ∷ ls) = pick (eqb n (l .letters)) (l .words) [] ++ under n ls
+under n (l ∷ ls) = cond (eqb n (l .letters)) (l .words) [] ++ under n ls
 
 -- the same choice among the words of one length
 unfoldable pub keywordUnder : ℕ → List ℕ → ℕ
@@ -89,4 +89,4 @@ keywordUnder n t = wordIn (under n page) t 13
 
 -- "its number is the token's code": 3 two signs, 4 one sign, 11 a keyword, 13 a name; a literal's word is its code
 unfoldable pub codeOf : ℕ → ℕ
-codeOf w = pick (ltb w 20) (pick (eqb w 14) 13 w) (pick (ltb w 40) 3 (pick (ltb w 60) 4 11))
+codeOf w = cond (ltb w 20) (cond (eqb w 14) 13 w) (cond (ltb w 40) 3 (cond (ltb w 60) 4 11))

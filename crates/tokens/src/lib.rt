@@ -1,14 +1,17 @@
 // Document 01's lexer: from bytes to tokens. It follows lexer.rs, function by function.
 ghost use mathlib.Core.Path.{_≡_};
 ghost use mathlib.Core.Bool.{false};
-ghost use Prim.Native.Nat.{_≤_, _<_};
+ghost use Prim.Native.Nat.{_<_};
 ghost use lib.ListN.{length};
 ghost use Rattle.chars.specs.Runs.{pastSpan};
 ghost use Rattle.tokens.specs.Words.{codeOf, twoSign, oneSign};
 ghost use Rattle.tokens.specs.Blanks.{pastComment, skipAll};
 ghost use Rattle.tokens.specs.Rules.{pairAt, colonsAt, fractionAt, dottedAt, threeAt, decimalGroup, ipv6At, periodAt, ipv4At, twoAt, oneAt, asAt, hexAt, numberAt, goesOn, escapes, quoteAt, isNameStart, nameAt, tokenAt, taken, refused};
 ghost use Rattle.tokens.specs.Tokens.{stepAt, bad, wholeOf, refusal, counted, lastOf, answerOf};
+use chars::Answer;
 use chars::Class;
+use chars::MOST_BYTES;
+use chars::refusal;
 
 mod keywords;
 pub mod word;
@@ -31,9 +34,9 @@ pub struct Refusal {
     pub end: usize,
 }
 
-// A token with its word and the next cursor; or a refusal: 4, 5, and 11 at the end.
+// A token, its word and where it starts, with the next cursor, where it ends; or a refusal: 4, 5, and 11 at the end.
 pub enum Step {
-    Taken(Token, u64, Cursor),
+    Taken(u64, usize, Cursor),
     Refused(Refusal),
 }
 
@@ -47,13 +50,6 @@ pub enum Fit {
 pub enum Whole {
     Fine,
     Refused(Refusal),
-}
-
-pub struct Answer {
-    pub number: u64,
-    pub start: usize,
-    pub end: usize,
-    pub count: usize,
 }
 
 // Two bytes stand at a place.
@@ -98,7 +94,7 @@ fn colons(s: &[u8], at: usize) -> Fit
     if chars::byte_at(s, b) != 58 {
         return Fit::No;
     }
-    Fit::To(chars::past(s, b + 1, Class::HexColon), 1)
+    Fit::To(chars::past(s, b + 1, Class::HexColon), word::IPV6)
 }
 
 // `.` and a digit.
@@ -117,7 +113,7 @@ fn dotted(s: &[u8], at: usize) -> Fit
     ensures { λ r. ⌜ r ≡ dottedAt (now (s .entry)) at ⌝ }
 {
     if fraction_at(s, at) {
-        return Fit::To(chars::past(s, at + 1, Class::Digit), 1);
+        return Fit::To(chars::past(s, at + 1, Class::Digit), word::IPV6);
     }
     Fit::No
 }
@@ -155,12 +151,12 @@ fn ipv6(s: &[u8], at: usize) -> Fit
         return Fit::No;
     };
     let Fit::To(fourth, _) = three_dotted(s, end) else {
-        return Fit::To(end, 1);
+        return Fit::To(end, word::IPV6);
     };
     if decimal_group(s, end) {
-        Fit::To(fourth, 1)
+        Fit::To(fourth, word::IPV6)
     } else {
-        Fit::To(end, 1)
+        Fit::To(end, word::IPV6)
     }
 }
 
@@ -171,7 +167,7 @@ fn period(s: &[u8], at: usize) -> Fit
     if chars::is_digit(chars::byte_at(s, at)) {
         let end = chars::past(s, at, Class::Digit);
         if chars::byte_at(s, end) == 46 {
-            return Fit::To(end + 1, 2);
+            return Fit::To(end + 1, word::IPV4);
         }
     }
     Fit::No
@@ -189,7 +185,7 @@ fn ipv4(s: &[u8], at: usize) -> Fit
     let Fit::To(c, _) = period(s, b) else {
         return Fit::No;
     };
-    Fit::To(chars::past(s, c, Class::Digit), 2)
+    Fit::To(chars::past(s, c, Class::Digit), word::IPV4)
 }
 
 // `== != <= >= += -= *= /= %=`: the word of a sign that `=` stands behind.
@@ -298,7 +294,7 @@ fn as_number(s: &[u8], at: usize) -> Fit
 {
     if pair_at(s, at, 65, 83) {
         if chars::is_digit(chars::byte_at(s, at + 2)) {
-            return Fit::To(chars::past(s, at + 2, Class::Digit), 5);
+            return Fit::To(chars::past(s, at + 2, Class::Digit), word::ASN);
         }
     }
     Fit::No
@@ -308,7 +304,7 @@ fn hex_number(s: &[u8], at: usize) -> Fit
     ensures { λ r. ⌜ r ≡ hexAt (now (s .entry)) at ⌝ }
 {
     if pair_at(s, at, 48, 120) {
-        Fit::To(chars::past(s, at + 2, Class::HexDigit), 6)
+        Fit::To(chars::past(s, at + 2, Class::HexDigit), word::HEX)
     } else {
         Fit::No
     }
@@ -321,9 +317,9 @@ fn number(s: &[u8], at: usize) -> Fit
         let whole = chars::past(s, at, Class::Figure);
         if fraction_at(s, whole) {
             let end = chars::past(s, whole + 1, Class::Figure);
-            return Fit::To(chars::past(s, end, Class::NamePart), 8);
+            return Fit::To(chars::past(s, end, Class::NamePart), word::FLOAT);
         }
-        return Fit::To(chars::past(s, whole, Class::NamePart), 7);
+        return Fit::To(chars::past(s, whole, Class::NamePart), word::INTEGER);
     }
     Fit::No
 }
@@ -381,7 +377,7 @@ fn keyword_or_ident(s: &[u8], at: usize) -> Fit
 }
 
 // The number of the rule that a word stands in.
-fn code_of(word: u64) -> u64
+pub fn code_of(word: u64) -> u64
     ensures { λ r. ⌜ r ≡ codeOf word ⌝ }
 {
     if 60 <= word {
@@ -402,8 +398,7 @@ fn code_of(word: u64) -> u64
 fn bump(start: usize, end: usize, word: u64) -> Step
     ensures { λ r. ⌜ r ≡ taken start end word ⌝ }
 {
-    let code = code_of(word);
-    Step::Taken(Token { code, start, end }, word, Cursor { at: end })
+    Step::Taken(word, start, Cursor { at: end })
 }
 
 fn refuse(number: u64, start: usize, end: usize) -> Step
@@ -439,18 +434,18 @@ fn next_token(s: &[u8], at: usize) -> Step
         return bump(at, end, word);
     }
     if pair_at(s, at, 102, 34) {
-        return refuse(5, at, at + 2);
+        return refuse(refusal::F_STRING, at, at + 2);
     }
-    if let Fit::To(end, word) = quoted(s, at, 34, 9) {
+    if let Fit::To(end, word) = quoted(s, at, 34, word::STRING) {
         return bump(at, end, word);
     }
-    if let Fit::To(end, word) = quoted(s, at, 39, 10) {
+    if let Fit::To(end, word) = quoted(s, at, 39, word::CHAR) {
         return bump(at, end, word);
     }
     if let Fit::To(end, word) = keyword_or_ident(s, at) {
         return bump(at, end, word);
     }
-    refuse(4, at, at + 1)
+    refuse(refusal::NO_TOKEN, at, at + 1)
 }
 
 impl Cursor {
@@ -468,7 +463,7 @@ impl Cursor {
         if at < s.len() {
             next_token(s, at)
         } else {
-            refuse(11, s.len(), s.len())
+            refuse(refusal::ENDS_EARLY, s.len(), s.len())
         }
     }
 }
@@ -483,15 +478,15 @@ fn refuse_source(number: u64, start: usize, end: usize) -> Whole
 pub fn check_source(s: &[u8]) -> Whole
     ensures { λ r. ⌜ r ≡ wholeOf (now (s .entry)) ⌝ }
 {
-    if 65535 < s.len() {
-        return refuse_source(1, 65535, 65535);
+    if MOST_BYTES < s.len() {
+        return refuse_source(refusal::TOO_LONG, MOST_BYTES, MOST_BYTES);
     }
     let high = chars::past(s, 0, Class::Ascii);
     if high < s.len() {
-        return refuse_source(2, high, high + 1);
+        return refuse_source(refusal::HIGH_BYTE, high, high + 1);
     }
     if pair_at(s, 0, 35, 33) {
-        return refuse_source(3, 0, 2);
+        return refuse_source(refusal::SHEBANG, 0, 2);
     }
     Whole::Fine
 }
@@ -512,14 +507,14 @@ fn counted_answer(length: usize, count: usize, room: usize) -> Answer
 {
     if count <= room {
         Answer {
-            number: 0,
+            number: refusal::NONE,
             start: 0,
             end: length,
             count,
         }
     } else {
         Answer {
-            number: 10,
+            number: refusal::NO_ROOM,
             start: 0,
             end: 0,
             count,
@@ -531,16 +526,13 @@ fn counted_answer(length: usize, count: usize, room: usize) -> Answer
 fn last_answer(step: Step, length: usize, count: usize, room: usize) -> Answer
     ensures { λ r. ⌜ r ≡ lastOf step length count room ⌝ }
 {
-    match step {
-        Step::Taken(_, _, _) => counted_answer(length, count, room),
-        Step::Refused(r) => {
-            if r.number == 11 {
-                counted_answer(length, count, room)
-            } else {
-                refused_answer(r)
-            }
-        }
+    let Step::Refused(r) = step else {
+        return counted_answer(length, count, room);
+    };
+    if r.number == refusal::ENDS_EARLY {
+        return counted_answer(length, count, room);
     }
+    refused_answer(r)
 }
 
 // The answer of (c) to a source, with room for so many tokens.

@@ -1,7 +1,24 @@
 // The words' numbers, by the Rust's names: which sign, which keyword or which other word a token is (specs/Words.antt).
 
-// No word stands here.
+// No word stands here, or the source ends.
 pub const NONE: u64 = 0;
+
+// Literals, by their rules.
+pub const IPV6: u64 = 1;
+
+pub const IPV4: u64 = 2;
+
+pub const ASN: u64 = 5;
+
+pub const HEX: u64 = 6;
+
+pub const INTEGER: u64 = 7;
+
+pub const FLOAT: u64 = 8;
+
+pub const STRING: u64 = 9;
+
+pub const CHAR: u64 = 10;
 
 // `true` and `false`.
 pub const BOOL: u64 = 12;
@@ -120,3 +137,13 @@ pub const SUPER: u64 = 79;
 pub const TEST: u64 = 80;
 
 pub const WHILE: u64 = 81;
+
+// Words that the lexer hasn't: `f"`, and a piece of an f-string's text before a hole and before its quote.
+pub const F_QUOTE: u64 = 90;
+
+pub const TEXT_THEN_HOLE: u64 = 91;
+
+pub const LAST_TEXT: u64 = 92;
+
+// What is no token.
+pub const NO_TOKEN: u64 = 99;

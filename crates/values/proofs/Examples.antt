@@ -8,7 +8,7 @@ use Prim.Native.String.{String}
 use Rattle.chars.specs.Chars.{byteAt, isClass}
 use Rattle.chars.specs.Runs.{span, pastSpan, pastRun, behindLast}
 use Rattle.chars.specs.Texts.{bytes, same}
-use Rattle.numbers.specs.Digits.{choose, digitOf, valueFrom, allBelow, plain, numberFrom, numberOf}
+use Rattle.numbers.specs.Digits.{digitOf, valueFrom, allBelow, plain, numberFrom, numberOf}
 use Rattle.numbers.specs.Numbers.{placeIn, suffixOf, ceilingOf, asInteger, integerWith, integerOf, asOf}
 use Rattle.addresses.specs.Groups.{shortOf, groupOf, parts, valuesOf}
 use Rattle.addresses.specs.Addresses.{exactly, octetsOf, quadOf, gap, sideOf, filled, groupsIn, frontOf, groupsWith, groupsOf, wideOf}
@@ -65,7 +65,7 @@ addresses =
     ∷ []
 
 pub examples : Rows pairs × Means addresses
-unfolding literalOf choose byteAt isClass span pastSpan pastRun behindLast bytes same digitOf valueFrom allBelow plain numberFrom numberOf placeIn suffixOf ceilingOf asInteger integerWith integerOf asOf shortOf groupOf parts valuesOf exactly octetsOf quadOf gap sideOf filled groupsIn frontOf groupsWith groupsOf wideOf pieceOf codesFrom measureOf isQuoted sizeOf utf8 encode
+unfolding literalOf byteAt isClass span pastSpan pastRun behindLast bytes same digitOf valueFrom allBelow plain numberFrom numberOf placeIn suffixOf ceilingOf asInteger integerWith integerOf asOf shortOf groupOf parts valuesOf exactly octetsOf quadOf gap sideOf filled groupsIn frontOf groupsWith groupsOf wideOf pieceOf codesFrom measureOf isQuoted sizeOf utf8 encode
 examples = (
   (refl, (refl, (refl, (refl, (refl, (refl, (refl, (refl, tt)))))))),
   (refl, (refl, (refl, (refl, (refl, (refl, (refl, (refl, (refl, (refl, (refl, (refl, (refl, tt))))))))))))),

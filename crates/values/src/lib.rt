@@ -3,6 +3,7 @@ use addresses::Address;
 use addresses::Quad;
 use numbers::Amount;
 use numbers::Number;
+use rows::kind;
 use strings::Point;
 use strings::Size;
 ghost use mathlib.Core.Path.{_≡_};
@@ -20,12 +21,12 @@ fn from_amount(a: Amount) -> Literal
 {
     match a {
         Amount::Integer { value, suffix } => Literal::Is {
-            kind: 10,
+            kind: kind::INTEGER,
             value,
             detail: suffix,
         },
         Amount::Float(suffix) => Literal::Is {
-            kind: 11,
+            kind: kind::FLOAT,
             value: 0,
             detail: suffix,
         },
@@ -51,7 +52,7 @@ fn from_quad(q: Quad) -> Literal
 {
     match q {
         Quad::Is(value) => Literal::Is {
-            kind: 14,
+            kind: kind::IPV4,
             value,
             detail: 0,
         },
@@ -64,7 +65,7 @@ fn from_address(a: Address) -> Literal
 {
     match a {
         Address::Is { high, low } => Literal::Is {
-            kind: 15,
+            kind: kind::IPV6,
             value: high,
             detail: low,
         },
@@ -77,7 +78,7 @@ fn from_size(n: Size) -> Literal
 {
     match n {
         Size::Is(_) => Literal::Is {
-            kind: 16,
+            kind: kind::STRING,
             value: 0,
             detail: 0,
         },
@@ -90,7 +91,7 @@ fn from_point(p: Point) -> Literal
 {
     match p {
         Point::Is(value) => Literal::Is {
-            kind: 17,
+            kind: kind::CHAR,
             value,
             detail: 0,
         },
@@ -103,14 +104,14 @@ fn bool_of(t: &[u8]) -> Literal
 {
     if numbers::same(t, b"true") {
         return Literal::Is {
-            kind: 12,
+            kind: kind::BOOL,
             value: 1,
             detail: 0,
         };
     }
     if numbers::same(t, b"false") {
         return Literal::Is {
-            kind: 12,
+            kind: kind::BOOL,
             value: 0,
             detail: 0,
         };
@@ -125,8 +126,8 @@ fn of_text(code: u64, t: &[u8]) -> Literal
     match code {
         1 => from_address(addresses::ipv6(t)),
         2 => from_quad(addresses::ipv4(t)),
-        5 => from_number(13, numbers::as_number(t)),
-        6 => from_number(10, numbers::hex(t)),
+        5 => from_number(kind::ASN, numbers::as_number(t)),
+        6 => from_number(kind::INTEGER, numbers::hex(t)),
         7 => from_amount(numbers::integer(t)),
         8 => from_amount(numbers::float(t)),
         9 => from_size(strings::string(t)),

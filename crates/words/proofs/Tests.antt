@@ -1,13 +1,12 @@
 -- A chain of tests, and the list of words that it tests for.
 use mathlib.Core.Path.{_≡_, refl, sym, ap, subst, _∙_}
 use mathlib.Core.List.{List, [], _∷_, _++_}
-use mathlib.Core.Bool.{Bool, true, false, not, _||_}
+use mathlib.Core.Bool.{Bool, true, false, not, _||_, cond}
 use mathlib.Core.Logic.{inl, inr}
 use Prim.Native.Nat.{ℕ, suc}
 use lib.Dec.{T, eqb, eqb→eq}
-use Rattle.chars.specs.Chars.{pick}
 use Rattle.grammar.specs.Words.{path-items, literals, four-words, filter-words}
-use Rattle.grammar.specs.Grammar.{ite, one-of}
+use Rattle.grammar.specs.Grammar.{one-of}
 use Rattle.grammar.specs.Rows.{place-in, detail-for}
 use Rattle.grammar.proofs.Bools.{or-l, or-r, or-cases}
 use Rattle.parser.proofs.Standing.{the-word}
@@ -92,10 +91,10 @@ either-list x (c ∷ w) v = go (eqb x c) (either-list x w v)
     go false e = e
 
 -- how a choice follows from its test
-pub first : {A : Type 0} {t : Bool} {a x : A} (b : A) → t ≡ true → x ≡ a → x ≡ pick t a b
+pub first : {A : Type 0} {t : Bool} {a x : A} (b : A) → t ≡ true → x ≡ a → x ≡ cond t a b
 first b h g = rw h g
 
-pub second : {A : Type 0} {t : Bool} (a : A) {b x : A} → t ≡ false → x ≡ b → x ≡ pick t a b
+pub second : {A : Type 0} {t : Bool} (a : A) {b x : A} → t ≡ false → x ≡ b → x ≡ cond t a b
 second a h g = rw h g
 
 pub ends-with-records : (x : ℕ) {b r : Bool} → b ≡ true → r ≡ one-of x exprFirsts → not r ≡ endsReturn x b
@@ -125,6 +124,6 @@ pub no-place : (x : ℕ) (w : List ℕ) → (T (one-of x w) → ⊥) → 0 ≡ p
 no-place x [] n = refl
 no-place x (c ∷ w) n = go (eqb x c) (λ t. n (or-l (eqb x c) (one-of x w) t)) (place-in x w) (no-place x w (λ t. n (or-r (eqb x c) (one-of x w) t)))
   where
-    go : (b : Bool) → (T b → ⊥) → (k : ℕ) → 0 ≡ k → 0 ≡ ite b 1 (ite (eqb k 0) 0 (suc k))
+    go : (b : Bool) → (T b → ⊥) → (k : ℕ) → 0 ≡ k → 0 ≡ cond b 1 (cond (eqb k 0) 0 (suc k))
     go true m k e = absurd (m tt)
-    go false m k e = subst (λ (j : ℕ). 0 ≡ ite (eqb j 0) 0 (suc j)) e refl
+    go false m k e = subst (λ (j : ℕ). 0 ≡ cond (eqb j 0) 0 (suc j)) e refl

@@ -39,13 +39,13 @@ use denote.Triple.Table.{entered, cited}
 use denote.Triple.Walked.{says, Stays, stay-none-slice, gave-slice, walkOf, goes-none-slice, goes-gave-slice, Walks, ends-at, walked, walk-meets}
 use denote.Exit.{yes}
 use Rattle.tokens.specs.declared.Token.{Token}
-use Rattle.tokens.specs.declared.Answer.{Answer}
+use Rattle.chars.specs.declared.Answer.{Answer}
 use Rattle.tokens.specs.Tokens.{answerOf}
 use Rattle.list.specs.Filled.{filled}
 use Rattle.lekhyundo.specs.Numbers.{answerNumbers}
 use Rattle.tokens.proofs.Token as T
-use Rattle.tokens.proofs.Answer as N
-use Rattle.tokens.proofs.Answer.Laws as N′
+use Rattle.chars.proofs.Answer as N
+use Rattle.chars.proofs.Answer.Laws as N′
 use Rattle.list.proofs.tokens as tokens
 use Rattle.list.proofs.tokens.Symbol as tokens-def
 use Rattle.list.proofs.tokens.Symbol.{name as #list·tokens}

@@ -1,4 +1,5 @@
-use Rattle.list.specs.States.{begunBy, begun}
+use mathlib.Core.Path.{ap, _∙_}
+use Rattle.list.specs.States.{standing, begunBy, begun}
 use borrow.Author.Needs.{needs}
 use Rattle.list.proofs.begin.Statement.{statement}
 use Rattle.list.proofs.begin.Tie as tie
@@ -8,6 +9,9 @@ check-source-requires c κs = search needs
 
 enum-told : tie.Need-enum-told
 enum-told c = search needs
+
+new-requires : tie.Need-new-requires
+new-requires c κs = search needs
 
 stand-requires : tie.Need-stand-requires
 stand-requires c κs = search needs
@@ -20,7 +24,7 @@ refuse-requires c κs = search needs
 
 returns : tie.Need-returns
 unfolding begun begunBy
-returns c = rw (← (c .before .before .before .check-source .ensures), c .before .enum-told .given .1) (c .stand .ensures)
+returns c = rw (← (c .before .before .before .before .check-source .ensures), c .before .before .enum-told .given .1) (c .stand .ensures ∙ ap (λ k. standing (c .before .before .before .before .before .before .args .s .now) (c .before .before .before .before .before .before .args .room) (record { at = k }) 0) (c .before .new .ensures))
 
 returns-2 : tie.Need-returns-2
 unfolding begun begunBy
@@ -32,6 +36,7 @@ begin-spec =
     (tie.spec
     check-source-requires
     enum-told
+    new-requires
     stand-requires
     enum-told-2
     refuse-requires

@@ -55,8 +55,8 @@ use Rattle.list.specs.States.{begun, nextOf}
 use Rattle.list.proofs.Writing.{Stand, turns, first as stand-first, onto, fewer, stands-done}
 use Rattle.tokens.proofs.Token as T
 use Rattle.tokens.proofs.Token.Laws as T′
-use Rattle.tokens.proofs.Answer as N
-use Rattle.tokens.proofs.Answer.Laws as N′
+use Rattle.chars.proofs.Answer as N
+use Rattle.chars.proofs.Answer.Laws as N′
 use Rattle.list.proofs.State as S
 use Rattle.list.proofs.State.Laws as S′
 use Rattle.list.proofs.Stored as K

@@ -1,6 +1,5 @@
-use mathlib.Core.Path.{_≡_, refl, ap, _∙_}
-use Rattle.parser.specs.declared.Read.the-variants.{Done}
-use Rattle.parser.specs.Places.{hereAt, partNode}
+use mathlib.Core.Path.{refl, ap, _∙_}
+use Rattle.rows.specs.Rows.{putRow}
 use Rattle.parser.proofs.Pieces.{piece-bad, piece-empty, piece-row}
 use borrow.Author.Needs.{needs}
 use Rattle.parser.proofs.text_row.Statement.{statement}
@@ -35,13 +34,16 @@ refuse-requires : tie.Need-refuse-requires
 refuse-requires c κs = search needs
 
 returns : tie.Need-returns
-returns c = piece-bad (c .before .before .before .before .before .before .before .args .s .now) (c .before .before .before .before .before .before .before .args .table .now) (c .before .before .before .before .before .before .before .args .here) (c .before .before .before .before .before .before .before .args .word) (c .before .before .before .before .before .before .before .args .end) (c .before .before .before .before .before .before .before .args .next) (c .before .before .before .text .ensures) (c .before .enum-told .given .1) (c .refuse .ensures) refl
+returns c = piece-bad (c .before .before .before .before .before .before .before .args .s .now) (c .before .before .before .before .before .before .before .args .table .now) (c .before .before .before .before .before .before .before .args .rows) (c .before .before .before .before .before .before .before .args .start) (c .before .before .before .before .before .before .before .args .word) (c .before .before .before .before .before .before .before .args .end) (c .before .before .before .before .before .before .before .args .next) (c .before .before .before .text .ensures) (c .before .enum-told .given .1) (c .refuse .ensures) refl
 
 look-requires : tie.Need-look-requires
 look-requires c κs = search needs
 
 returns-2 : tie.Need-returns-2
-returns-2 c = piece-empty (c .before .before .before .before .before .before .before .before .before .args .s .now) (c .before .before .before .before .before .before .before .before .before .args .table .now) (c .before .before .before .before .before .before .before .before .before .args .here) (c .before .before .before .before .before .before .before .before .before .args .word) (c .before .before .before .before .before .before .before .before .before .args .end) (c .before .before .before .before .before .before .before .before .before .args .next) (c .before .before .before .before .before .text .ensures) (c .before .before .before .count .given .1) (c .before .if1 .taken) (ap (Done (partNode (c .before .before .before .before .before .before .before .before .before .args .word) (c .before .before .before .before .before .before .before .before .before .args .here .next) (c .before .before .before .before .before .before .before .before .before .args .end) 0)) (c .look .ensures)) refl
+returns-2 c = piece-empty (c .before .before .before .before .before .before .before .before .before .args .s .now) (c .before .before .before .before .before .before .before .before .before .args .table .now) (c .before .before .before .before .before .before .before .before .before .args .rows) (c .before .before .before .before .before .before .before .before .before .args .start) (c .before .before .before .before .before .before .before .before .before .args .word) (c .before .before .before .before .before .before .before .before .before .args .end) (c .before .before .before .before .before .before .before .before .before .args .next) (c .before .before .before .before .before .text .ensures) (c .before .before .before .count .given .1) (c .before .if1 .taken) (c .look .ensures) refl
+
+part-row-requires : tie.Need-part-row-requires
+part-row-requires c κs = search needs
 
 put-requires : tie.Need-put-requires
 put-requires c κs = search needs
@@ -56,7 +58,7 @@ same-length : tie.Need-same-length
 same-length c = search needs
 
 returns-3 : tie.Need-returns-3
-returns-3 c = piece-row (c .before .before .before .before .before .before .before .before .before .before .before .before .before .before .args .s .now) (c .before .before .before .before .before .before .before .before .before .before .before .before .before .before .args .table .now) (c .before .before .before .before .before .before .before .before .before .before .before .before .before .before .args .here) (c .before .before .before .before .before .before .before .before .before .before .before .before .before .before .args .word) (c .before .before .before .before .before .before .before .before .before .before .before .before .before .before .args .end) (c .before .before .before .before .before .before .before .before .before .before .before .before .before .before .args .next) (c .before .before .before .before .before .before .before .before .before .before .text .ensures) (c .before .before .before .before .before .before .before .before .count .given .1) (c .before .before .before .before .before .before .if1 .left) (ap (Done (partNode (c .before .before .before .before .before .before .before .before .before .before .before .before .before .before .args .word) (c .before .before .before .before .before .before .before .before .before .before .before .before .before .before .args .here .next) (c .before .before .before .before .before .before .before .before .before .before .before .before .before .before .args .end) 1)) (c .look2 .ensures ∙ ap (hereAt (c .before .before .before .before .before .before .before .before .before .before .before .before .before .before .args .s .now) (c .before .before .before .before .before .before .before .before .before .before .before .before .before .before .args .next)) (c .before .row-more .ensures))) (c .before .before .before .before .put .ensures)
+returns-3 c = piece-row (c .before .before .before .before .before .before .before .before .before .before .before .before .before .before .before .args .s .now) (c .before .before .before .before .before .before .before .before .before .before .before .before .before .before .before .args .table .now) (c .before .before .before .before .before .before .before .before .before .before .before .before .before .before .before .args .rows) (c .before .before .before .before .before .before .before .before .before .before .before .before .before .before .before .args .start) (c .before .before .before .before .before .before .before .before .before .before .before .before .before .before .before .args .word) (c .before .before .before .before .before .before .before .before .before .before .before .before .before .before .before .args .end) (c .before .before .before .before .before .before .before .before .before .before .before .before .before .before .before .args .next) (c .before .before .before .before .before .before .before .before .before .before .before .text .ensures) (c .before .before .before .before .before .before .before .before .before .count .given .1) (c .before .before .before .before .before .before .before .if1 .left) (c .look2 .ensures) (c .before .row-more .ensures) (c .before .before .before .before .put .ensures ∙ ap (putRow (c .before .before .before .before .before .before .before .before .before .before .before .before .before .before .before .args .table .now) (c .before .before .before .before .before .before .before .before .before .before .before .before .before .before .before .args .rows)) (c .before .before .before .before .before .part-row .ensures))
 
 pub text-row-spec : {M : Type 1} → statement M
 text-row-spec =
@@ -72,6 +74,7 @@ text-row-spec =
     returns
     look-requires
     returns-2
+    part-row-requires
     put-requires
     row-more-requires
     look-requires-2

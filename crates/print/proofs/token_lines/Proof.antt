@@ -29,6 +29,9 @@ enum-told c = search needs
 returns : tie.Need-returns Inv-loop μ-loop
 returns c = search needs
 
+code-of-requires : tie.Need-code-of-requires Inv-loop μ-loop
+code-of-requires c κs = search needs
+
 print-decimal-requires : tie.Need-print-decimal-requires Inv-loop μ-loop
 print-decimal-requires c κs = search needs
 
@@ -68,6 +71,7 @@ token-lines-spec =
     enum-known-step
     enum-told
     returns
+    code-of-requires
     print-decimal-requires
     number-requires
     number-requires-2

@@ -1,21 +1,14 @@
-use Rattle.promises.proofs.Chains.{linked-in, linked-out}
 use borrow.Author.Needs.{needs}
+use mathlib.Core.Logic.{inl, inr}
+use Rattle.promises.proofs.Chains.{linked-out, linked-in}
 use Rattle.reader.proofs.else_if.Statement.{statement}
 use Rattle.reader.proofs.else_if.Tie as tie
-use Rattle.reader.proofs.else_if.Reads as reads
-use Rattle.reader.proofs.else_if.Lts as lts
-
-refuse-requires : tie.Need-refuse-requires
-refuse-requires c κs = search needs
-
-returns : tie.Need-returns
-returns c = linked-out (c .before .before .before .before .args .s .now) (c .before .before .before .before .args .here) (c .before .before .before .before .args .limits) (c .before .if1 .taken) (c .refuse .ensures)
 
 deeper-requires : tie.Need-deeper-requires
 deeper-requires c κs = search needs
 
-returns-2 : tie.Need-returns-2
-returns-2 c = linked-in (c .before .before .before .before .args .s .now) (c .before .before .before .before .args .here) (c .before .before .before .before .args .limits) (c .before .if1 .left) (c .deeper .ensures)
+returns : tie.Need-returns
+returns c = elim (c .before .if1 .came) [ inl u ↦ linked-out _ _ (c .before .before .before .before .args .limits) (u .0 .taken) (u .1) (c .deeper .ensures) | inr u ↦ linked-in _ _ (c .before .before .before .before .args .limits) (u .0 .left) (u .1) (c .deeper .ensures) ]
 
 pub else-if-spec : {M : Type 1} → statement M
-else-if-spec = tie.close (tie.spec refuse-requires returns deeper-requires returns-2)
+else-if-spec = tie.close (tie.spec deeper-requires returns)

@@ -1,4 +1,4 @@
-use Prim.Native.Nat.{_+_, _-_}
+use Prim.Native.Nat.{_-_}
 use native.Mathlib.Omega.{arith}
 use lib.ListN.{length}
 use Rattle.texts.proofs.Modes.{Scan, scan-starts, scan-in, scan-goes, scan-ends}

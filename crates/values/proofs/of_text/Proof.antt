@@ -1,6 +1,5 @@
 use mathlib.Core.Path.{refl, ap, _∙_}
 use borrow.Author.Tests.{ne-eqb}
-use Rattle.numbers.specs.Digits.{choose}
 use Rattle.numbers.proofs.Choices.{second}
 use Rattle.values.specs.Literals.{literalOf, fromAddress, fromQuad, fromNumber, fromAmount, fromSize, fromPoint}
 use Rattle.values.proofs.Literals.{at-code}
@@ -62,39 +61,39 @@ bool-of-requires : tie.Need-bool-of-requires
 bool-of-requires c κs = search needs
 
 returns : tie.Need-returns
-unfolding literalOf choose
+unfolding literalOf
 returns c = at-code (c .before .before .before .before .args .t .now) (c .before .before .match .keys1) (c .from-address .ensures ∙ ap (fromAddress) (c .before .ipv6 .ensures))
 
 returns-2 : tie.Need-returns-2
-unfolding literalOf choose
+unfolding literalOf
 returns-2 c = at-code (c .before .before .before .before .args .t .now) (c .before .before .match .keys2) (c .from-quad .ensures ∙ ap (fromQuad) (c .before .ipv4 .ensures))
 
 returns-3 : tie.Need-returns-3
-unfolding literalOf choose
+unfolding literalOf
 returns-3 c = at-code (c .before .before .before .before .args .t .now) (c .before .before .match .keys3) (c .from-number .ensures ∙ ap (fromNumber 13) (c .before .as-number .ensures))
 
 returns-4 : tie.Need-returns-4
-unfolding literalOf choose
+unfolding literalOf
 returns-4 c = at-code (c .before .before .before .before .args .t .now) (c .before .before .match .keys4) (c .from-number2 .ensures ∙ ap (fromNumber 10) (c .before .hex .ensures))
 
 returns-5 : tie.Need-returns-5
-unfolding literalOf choose
+unfolding literalOf
 returns-5 c = at-code (c .before .before .before .before .args .t .now) (c .before .before .match .keys5) (c .from-amount .ensures ∙ ap (fromAmount) (c .before .integer .ensures))
 
 returns-6 : tie.Need-returns-6
-unfolding literalOf choose
+unfolding literalOf
 returns-6 c = at-code (c .before .before .before .before .args .t .now) (c .before .before .match .keys6) (c .from-amount2 .ensures ∙ ap (fromAmount) (c .before .float .ensures))
 
 returns-7 : tie.Need-returns-7
-unfolding literalOf choose
+unfolding literalOf
 returns-7 c = at-code (c .before .before .before .before .args .t .now) (c .before .before .match .keys7) (c .from-size .ensures ∙ ap (fromSize) (c .before .string .ensures))
 
 returns-8 : tie.Need-returns-8
-unfolding literalOf choose
+unfolding literalOf
 returns-8 c = at-code (c .before .before .before .before .args .t .now) (c .before .before .match .keys8) (c .from-point .ensures ∙ ap (fromPoint) (c .before .char-of .ensures))
 
 returns-9 : tie.Need-returns-9
-unfolding literalOf choose
+unfolding literalOf
 returns-9 c = at-code (c .before .before .before .args .t .now) (c .before .match .keys9) (c .bool-of .ensures)
 
 returns-10 : tie.Need-returns-10

@@ -98,9 +98,11 @@ fn main() {
     let owned = |texts: &[&str]| texts.iter().map(|text| text.to_string()).collect::<Vec<_>>();
     println!("{:8} bytes: the empty source", measure.taken(lekhyundo_expression, ""));
 
-    // A factor ends the row of return forms, so that as many signs may follow.
+    // A factor ends the row of return forms, so that as many signs may follow; what stands behind a sign of each level is read
+    // inside what the sign joins.
     let (words, signs) = ("return ".repeat(LIMIT), "!".repeat(LIMIT));
-    let prefixes = [String::new(), signs.clone(), words.clone(), format!("{words}1*{signs}")];
+    let mut prefixes = vec![String::new(), signs.clone(), words.clone(), format!("{words}1*{signs}")];
+    prefixes.push(format!("{words}1||1&&1==1+1*{signs}"));
     let before = measure.dearest("a parenthesis behind", ["", "("], &prefixes);
 
     let mut brackets = owned(&[
