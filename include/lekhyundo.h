@@ -67,7 +67,7 @@ void lekhyundo_decode(const uint8_t *source, size_t source_length, uint8_t *out,
                       uint64_t *answer, size_t answer_length);
 
 /* What a literal of a token code from start to end says, four numbers: 0, and its row's kind, value and detail; or 7 and zeros
- * where it has no value. */
+ * where it has no value, where the text is no token of that code, and where the span doesn't fit the source. */
 void lekhyundo_literal(const uint8_t *source, size_t source_length, uint64_t code, size_t start, size_t end,
                        uint64_t *out, size_t out_length);
 

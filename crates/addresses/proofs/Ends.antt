@@ -136,23 +136,23 @@ pub both-quad : (w : Wide) {x y : Wide} {quad : Quad} {q : ℕ} → quad ≡ Qua
 both-quad w e hx hy = rw (e, hy, hx) refl
 
 -- groups that are none, and eight groups
-unheard : (m : ℕ) → m ≤ 8 → (x : List ℕ) → heard Form.Hexed 0 spec.zero (groupsIn m x) ≡ Groups.None → groupsIn m x ≡ none
+unheard : (m : ℕ) → m ≤ 8 → (x : List ℕ) → heard Form.Hexed 0 spec.allZero (groupsIn m x) ≡ Groups.None → groupsIn m x ≡ none
 unheard m top x e = go (groupsIn m x) refl
   where
     go : (g : Option (List ℕ)) → groupsIn m x ≡ g → g ≡ none
     go none f = refl
-    go (some vs) f = absurd (omega (arith, heard-not Form.Hexed 0 spec.zero (groupsIn m x) e vs f, groups-sized m x f))
+    go (some vs) f = absurd (omega (arith, heard-not Form.Hexed 0 spec.allZero (groupsIn m x) e vs f, groups-sized m x f))
 
-as-halves-of : (vs : List ℕ) {w : Wide} → w ≡ pushAll Form.Hexed spec.zero vs → length vs ≡ 8 → AllLt 65536 vs → Address.Is (w .high) (w .low) ≡ asAddress (some vs)
+as-halves-of : (vs : List ℕ) {w : Wide} → w ≡ pushAll Form.Hexed spec.allZero vs → length vs ≡ 8 → AllLt 65536 vs → Address.Is (w .high) (w .low) ≡ asAddress (some vs)
 as-halves-of vs e n s = ap (λ z. Address.Is (z .high) (z .low)) (e ∙ eight-halves vs n s)
 
 -- six groups and a quad
-module _ (x y : List ℕ) {q : ℕ} (hq : quadOf y ≡ Quad.Is q) {c : ℕ} {w : Wide} (hg : heard Form.Hexed 0 spec.zero (groupsIn 6 x) ≡ Groups.Are c w) where
+module _ (x y : List ℕ) {q : ℕ} (hq : quadOf y ≡ Quad.Is q) {c : ℕ} {w : Wide} (hg : heard Form.Hexed 0 spec.allZero (groupsIn 6 x) ≡ Groups.Are c w) where
   abbrev o : Octets y q
   o = quad-octets y hq
 
-  g : Heard Form.Hexed 0 spec.zero (groupsIn 6 x) c w
-  g = heard-are Form.Hexed 0 spec.zero (groupsIn 6 x) hg
+  g : Heard Form.Hexed 0 spec.allZero (groupsIn 6 x) c w
+  g = heard-are Form.Hexed 0 spec.allZero (groupsIn 6 x) hg
 
   pairs : paired (o .os) ≡ (q / 65536) ∷ (q % 65536) ∷ []
   pairs = halves (o .os) (o .four) (o .below) .pairs ∙ sym (ap (λ n. (n / 65536) ∷ (n % 65536) ∷ []) (o .value))
@@ -163,12 +163,12 @@ module _ (x y : List ℕ) {q : ℕ} (hq : quadOf y ≡ Quad.Is q) {c : ℕ} {w :
   all-fit : AllLt 65536 (g .vs ++ paired (o .os))
   all-fit = all-append 65536 (g .vs) (paired (o .os)) (groups-below 6 x (g .are)) (subst (AllLt 65536) (sym pairs) (quad-high y hq, (mod-lt q (lit< tt), tt)))
 
-  pushed : pushOf Form.Hexed (pushOf Form.Hexed w (q / 65536)) (q % 65536) ≡ pushAll Form.Hexed spec.zero (g .vs ++ paired (o .os))
+  pushed : pushOf Form.Hexed (pushOf Form.Hexed w (q / 65536)) (q % 65536) ≡ pushAll Form.Hexed spec.allZero (g .vs ++ paired (o .os))
   unfolding pushAll
   pushed =
       ap (λ z. pushOf Form.Hexed (pushOf Form.Hexed z (q / 65536)) (q % 65536)) (g .wide)
-      ∙ ap (pushAll Form.Hexed (pushAll Form.Hexed spec.zero (g .vs))) (sym pairs)
-      ∙ sym (push-append Form.Hexed spec.zero (g .vs) (paired (o .os)))
+      ∙ ap (pushAll Form.Hexed (pushAll Form.Hexed spec.allZero (g .vs))) (sym pairs)
+      ∙ sym (push-append Form.Hexed spec.allZero (g .vs) (paired (o .os)))
 
   mixed-is : bothOf w (Quad.Is q) ≡ asAddress (joinQuad (groupsIn 6 x) (o .os))
   mixed-is = as-halves-of (g .vs ++ paired (o .os)) pushed eight all-fit ∙ sym (ap (λ a. asAddress (joinQuad a (o .os))) (g .are))
@@ -187,7 +187,7 @@ module _ (t : List ℕ) {at : ℕ} (ha : at ≡ behindLast 58 t (length t)) wher
       go none h = refl
       go (some os) h = let z : _≡_ {A = ℕ} 0 1 = cc in absurd (omega arith)
 
-  read-none : (quad : Quad) → quadOf (drop at t) ≡ quad → heard Form.Hexed 0 spec.zero (groupsIn (wholeOf quad) (take (endOf t at quad) t)) ≡ Groups.None → Address.None ≡ wideOf t
+  read-none : (quad : Quad) → quadOf (drop at t) ≡ quad → heard Form.Hexed 0 spec.allZero (groupsIn (wholeOf quad) (take (endOf t at quad) t)) ≡ Groups.None → Address.None ≡ wideOf t
   unfolding groupsWith
   read-none (Quad.Is q) e h =
       let o = quad-octets (drop at t) e in
@@ -195,21 +195,21 @@ module _ (t : List ℕ) {at : ℕ} (ha : at ≡ behindLast 58 t (length t)) wher
   read-none Quad.None e h =
       ap asAddress (sym (unheard 8 (lit≤ tt) (take (length t) t) h) ∙ ap (groupsIn 8) (take-length t)) ∙ as-with (no-octets e)
 
-  read-both : (quad : Quad) → quadOf (drop at t) ≡ quad → {c : ℕ} {w : Wide} → heard Form.Hexed 0 spec.zero (groupsIn (wholeOf quad) (take (endOf t at quad) t)) ≡ Groups.Are c w → bothOf w quad ≡ wideOf t
+  read-both : (quad : Quad) → quadOf (drop at t) ≡ quad → {c : ℕ} {w : Wide} → heard Form.Hexed 0 spec.allZero (groupsIn (wholeOf quad) (take (endOf t at quad) t)) ≡ Groups.Are c w → bothOf w quad ≡ wideOf t
   unfolding groupsWith
   read-both (Quad.Is q) e h = mixed-is (take (frontOf t at) t) (drop at t) e h ∙ as-with (quad-octets (drop at t) e .are)
   read-both Quad.None e h =
-      let g = heard-are Form.Hexed 0 spec.zero (groupsIn 8 (take (length t) t)) h in
+      let g = heard-are Form.Hexed 0 spec.allZero (groupsIn 8 (take (length t) t)) h in
       as-halves-of (g .vs) (g .wide) (groups-sized 8 (take (length t) t) (g .are)) (groups-below 8 (take (length t) t) (g .are))
       ∙ ap asAddress (sym (g .are) ∙ ap (groupsIn 8) (take-length t))
       ∙ as-with (no-octets e)
 
   module _ {quad : Quad} {end whole : ℕ} (hq : quad ≡ quadOf (drop at t)) (he : end ≡ endOf t at quad) (hw : whole ≡ wholeOf quad) where
-    heard-with : {g : Groups} → heard Form.Hexed 0 spec.zero (groupsIn whole (take end t)) ≡ g → heard Form.Hexed 0 spec.zero (groupsIn (wholeOf quad) (take (endOf t at quad) t)) ≡ g
-    heard-with e = ap₂ (λ m n. heard Form.Hexed 0 spec.zero (groupsIn m (take n t))) (sym hw) (sym he) ∙ e
+    heard-with : {g : Groups} → heard Form.Hexed 0 spec.allZero (groupsIn whole (take end t)) ≡ g → heard Form.Hexed 0 spec.allZero (groupsIn (wholeOf quad) (take (endOf t at quad) t)) ≡ g
+    heard-with e = ap₂ (λ m n. heard Form.Hexed 0 spec.allZero (groupsIn m (take n t))) (sym hw) (sym he) ∙ e
 
-    pub wide-none : heard Form.Hexed 0 spec.zero (groupsIn whole (take end t)) ≡ Groups.None → Address.None ≡ wideOf t
+    pub wide-none : heard Form.Hexed 0 spec.allZero (groupsIn whole (take end t)) ≡ Groups.None → Address.None ≡ wideOf t
     wide-none e = read-none quad (sym hq) (heard-with e)
 
-    pub wide-both : {c : ℕ} {w : Wide} {r : Address} → heard Form.Hexed 0 spec.zero (groupsIn whole (take end t)) ≡ Groups.Are c w → r ≡ bothOf w quad → r ≡ wideOf t
+    pub wide-both : {c : ℕ} {w : Wide} {r : Address} → heard Form.Hexed 0 spec.allZero (groupsIn whole (take end t)) ≡ Groups.Are c w → r ≡ bothOf w quad → r ≡ wideOf t
     wide-both e h = h ∙ read-both quad (sym hq) (heard-with e)

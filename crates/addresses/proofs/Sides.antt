@@ -265,7 +265,7 @@ shift a b c d e f g h x hb hc hd hf hg hh =
     (ap (λ p. p * 65536 + x) (four-mod e f g h hf hg hh) ∙ next-four f g h x)
 
 all-eight : (a b c d e f g h : ℕ) → AllLt 65536 (a ∷ b ∷ c ∷ d ∷ e ∷ f ∷ g ∷ h ∷ [])
-    → pushAll Form.Hexed spec.zero (a ∷ b ∷ c ∷ d ∷ e ∷ f ∷ g ∷ h ∷ []) ≡ wide (four a b c d) (four e f g h)
+    → pushAll Form.Hexed spec.allZero (a ∷ b ∷ c ∷ d ∷ e ∷ f ∷ g ∷ h ∷ []) ≡ wide (four a b c d) (four e f g h)
 unfolding pushAll valueFrom
 all-eight a b c d e f g h s =
     let z : 0 < 65536 = lit< tt in
@@ -279,7 +279,7 @@ all-eight a b c d e f g h s =
     ∙ shift 0 a b c d e f g h (s .0) (s .1 .0) (s .1 .1 .0) (s .1 .1 .1 .1 .0) (s .1 .1 .1 .1 .1 .0) (s .1 .1 .1 .1 .1 .1 .0)
 
 -- eight groups, four in each half
-pub eight-halves : (vs : List ℕ) → length vs ≡ 8 → AllLt 65536 vs → pushAll Form.Hexed spec.zero vs ≡ wide (valueOf 65536 (take 4 vs)) (valueOf 65536 (drop 4 vs))
+pub eight-halves : (vs : List ℕ) → length vs ≡ 8 → AllLt 65536 vs → pushAll Form.Hexed spec.allZero vs ≡ wide (valueOf 65536 (take 4 vs)) (valueOf 65536 (drop 4 vs))
 eight-halves [] e s = absurd (omega (arith, e))
 eight-halves (a ∷ []) e s = absurd (omega (arith, e))
 eight-halves (a ∷ b ∷ []) e s = absurd (omega (arith, e))
@@ -294,15 +294,15 @@ eight-halves (a ∷ b ∷ c ∷ d ∷ f ∷ g ∷ h ∷ i ∷ j ∷ vs) e s = ab
 -- what was heard, where so many are wanted
 module _ {m : ℕ} (top : m ≤ 8) where
   abbrev one-two : List ℕ → Bool → Groups
-  one-two vs u = cond u (Groups.Are (0 + length vs) (pushAll Form.Hexed spec.zero vs)) Groups.None
+  one-two vs u = cond u (Groups.Are (0 + length vs) (pushAll Form.Hexed spec.allZero vs)) Groups.None
 
-  only-these : (vs : List ℕ) → length vs ≡ m → onlyOf m (heard Form.Hexed 0 spec.zero (some vs)) ≡ heard Form.Hexed 0 spec.zero (some vs)
+  only-these : (vs : List ℕ) → length vs ≡ m → onlyOf m (heard Form.Hexed 0 spec.allZero (some vs)) ≡ heard Form.Hexed 0 spec.allZero (some vs)
   unfolding heard
   only-these vs e =
-      let k : Groups.Are (0 + length vs) (pushAll Form.Hexed spec.zero vs) ≡ heard Form.Hexed 0 spec.zero (some vs) = first Groups.None (le-leb (0 + length vs) 8 (omega (arith, e))) refl in
+      let k : Groups.Are (0 + length vs) (pushAll Form.Hexed spec.allZero vs) ≡ heard Form.Hexed 0 spec.allZero (some vs) = first Groups.None (le-leb (0 + length vs) 8 (omega (arith, e))) refl in
       sym (only-is m (sym k) (zero-add (length vs) ∙ e)) ∙ k
 
-  only-others : (vs : List ℕ) → (length vs ≡ m → ⊥) → onlyOf m (heard Form.Hexed 0 spec.zero (some vs)) ≡ Groups.None
+  only-others : (vs : List ℕ) → (length vs ≡ m → ⊥) → onlyOf m (heard Form.Hexed 0 spec.allZero (some vs)) ≡ Groups.None
   unfolding heard onlyOf
   only-others vs f = go (leb (0 + length vs) 8)
     where
@@ -310,23 +310,23 @@ module _ {m : ℕ} (top : m ≤ 8) where
       go true = sym (second _ (ne-eqb _ _ (λ e. f (sym (zero-add (length vs)) ∙ e))) refl)
       go false = refl
 
-  only-heard : (o : Option (List ℕ)) → onlyOf m (heard Form.Hexed 0 spec.zero o) ≡ heard Form.Hexed 0 spec.zero (exactly m o)
+  only-heard : (o : Option (List ℕ)) → onlyOf m (heard Form.Hexed 0 spec.allZero o) ≡ heard Form.Hexed 0 spec.allZero (exactly m o)
   unfolding heard onlyOf exactly
   only-heard none = refl
   only-heard (some vs) = elim (ℕ-discrete (length vs) m) [
-    | yes e ↦ only-these vs e ∙ ap (heard Form.Hexed 0 spec.zero) (first none (eq-eqb _ _ e) refl)
-    | no f ↦ only-others vs f ∙ ap (heard Form.Hexed 0 spec.zero) (second (some vs) (ne-eqb _ _ f) refl)
+    | yes e ↦ only-these vs e ∙ ap (heard Form.Hexed 0 spec.allZero) (first none (eq-eqb _ _ e) refl)
+    | no f ↦ only-others vs f ∙ ap (heard Form.Hexed 0 spec.allZero) (second (some vs) (ne-eqb _ _ f) refl)
   ]
 
   module _ (t : List ℕ) {at : ℕ} (ha : at ≡ gap t) where
-    pub groups-short : {r : Groups} → at < length t → r ≡ heard Form.Hexed 0 spec.zero (filled m (sideOf (take at t)) (sideOf (drop (at + 2) t))) → r ≡ heard Form.Hexed 0 spec.zero (groupsIn m t)
+    pub groups-short : {r : Groups} → at < length t → r ≡ heard Form.Hexed 0 spec.allZero (filled m (sideOf (take at t)) (sideOf (drop (at + 2) t))) → r ≡ heard Form.Hexed 0 spec.allZero (groupsIn m t)
     unfolding groupsIn
-    groups-short h hr = rw (← ha) (hr ∙ ap (heard Form.Hexed 0 spec.zero) (first _ (lt-ltb _ _ h) refl))
+    groups-short h hr = rw (← ha) (hr ∙ ap (heard Form.Hexed 0 spec.allZero) (first _ (lt-ltb _ _ h) refl))
 
-    pub groups-full : {g r : Groups} → length t ≤ at → g ≡ heard Form.Hexed 0 spec.zero (valuesOf Form.Hexed (parts 58 t)) → r ≡ onlyOf m g → r ≡ heard Form.Hexed 0 spec.zero (groupsIn m t)
+    pub groups-full : {g r : Groups} → length t ≤ at → g ≡ heard Form.Hexed 0 spec.allZero (valuesOf Form.Hexed (parts 58 t)) → r ≡ onlyOf m g → r ≡ heard Form.Hexed 0 spec.allZero (groupsIn m t)
     unfolding groupsIn
     groups-full h hg hr =
-        rw (← ha) (hr ∙ ap (onlyOf m) hg ∙ only-heard (valuesOf Form.Hexed (parts 58 t)) ∙ ap (heard Form.Hexed 0 spec.zero) (second _ (le-ltb _ _ h) refl))
+        rw (← ha) (hr ∙ ap (onlyOf m) hg ∙ only-heard (valuesOf Form.Hexed (parts 58 t)) ∙ ap (heard Form.Hexed 0 spec.allZero) (second _ (le-ltb _ _ h) refl))
 
 pub gap-room : (t : List ℕ) {at : ℕ} → at ≡ gap t → at < length t → at + 2 ≤ length t
 gap-room t ha h = subst (λ n. n + 2 ≤ length t) (sym ha) (gap-whole t (subst (λ n. n < length t) ha h))
@@ -391,7 +391,7 @@ module _ (m : ℕ) where
   groups-below t e = subst (Below 65536) e (groups-all t .1)
 
 -- a dotted quad from what was heard
-all-four : (a b c d : ℕ) → AllLt 256 (a ∷ b ∷ c ∷ d ∷ []) → pushAll Form.Dotted spec.zero (a ∷ b ∷ c ∷ d ∷ []) .low ≡ valueOf 256 (a ∷ b ∷ c ∷ d ∷ [])
+all-four : (a b c d : ℕ) → AllLt 256 (a ∷ b ∷ c ∷ d ∷ []) → pushAll Form.Dotted spec.allZero (a ∷ b ∷ c ∷ d ∷ []) .low ≡ valueOf 256 (a ∷ b ∷ c ∷ d ∷ [])
 unfolding pushAll pushOf valueFrom
 all-four a b c d s =
     let h : 0 * 256 + a < 281474976710656 = omega (arith, s .0) in
@@ -399,7 +399,7 @@ all-four a b c d s =
     let m : ((0 * 256 + a) * 256 + b) * 256 + c < 281474976710656 = omega (arith, s .0, s .1 .0, s .1 .1 .0) in
     rw (mod-eq-of-lt h, mod-eq-of-lt k, mod-eq-of-lt m) refl
 
-four-octets : (vs : List ℕ) → length vs ≡ 4 → AllLt 256 vs → pushAll Form.Dotted spec.zero vs .low ≡ valueOf 256 vs
+four-octets : (vs : List ℕ) → length vs ≡ 4 → AllLt 256 vs → pushAll Form.Dotted spec.allZero vs .low ≡ valueOf 256 vs
 four-octets [] e s = absurd (omega (arith, e))
 four-octets (a ∷ []) e s = absurd (omega (arith, e))
 four-octets (a ∷ b ∷ []) e s = absurd (omega (arith, e))
@@ -407,7 +407,7 @@ four-octets (a ∷ b ∷ c ∷ []) e s = absurd (omega (arith, e))
 four-octets (a ∷ b ∷ c ∷ d ∷ []) e s = all-four a b c d s
 four-octets (a ∷ b ∷ c ∷ d ∷ f ∷ vs) e s = absurd (omega (arith, e))
 
-module _ (t : List ℕ) {g : Groups} (hg : g ≡ heard Form.Dotted 0 spec.zero (valuesOf Form.Dotted (parts 46 t))) where
+module _ (t : List ℕ) {g : Groups} (hg : g ≡ heard Form.Dotted 0 spec.allZero (valuesOf Form.Dotted (parts 46 t))) where
   octets : Option (List ℕ)
   octets = valuesOf Form.Dotted (parts 46 t)
 
@@ -421,12 +421,12 @@ module _ (t : List ℕ) {g : Groups} (hg : g ≡ heard Form.Dotted 0 spec.zero (
 
   pub quad-none : g ≡ Groups.None → Quad.None ≡ quadOf t
   unfolding octets
-  quad-none e = unquad (λ vs f h. omega (arith, h, heard-not Form.Dotted 0 spec.zero octets (so hg e) vs f))
+  quad-none e = unquad (λ vs f h. omega (arith, h, heard-not Form.Dotted 0 spec.allZero octets (so hg e) vs f))
 
   module _ {n : ℕ} {w : Wide} (e : g ≡ Groups.Are n w) where
-    these : Heard Form.Dotted 0 spec.zero octets n w
+    these : Heard Form.Dotted 0 spec.allZero octets n w
     unfolding octets
-    these = heard-are Form.Dotted 0 spec.zero octets (so hg e)
+    these = heard-are Form.Dotted 0 spec.allZero octets (so hg e)
 
     pub quad-not : (n ≡ 4 → ⊥) → Quad.None ≡ quadOf t
     quad-not h = unquad (λ vs f k. h (these .count ∙ zero-add (length (these .vs)) ∙ ap length (some-same (sym (these .are) ∙ f)) ∙ k))

@@ -65,5 +65,6 @@ unfoldable pub onlyOf : ℕ → Groups → Groups
 onlyOf n (Groups.Are c w) = cond (eqb c n) (Groups.Are c w) Groups.None
 onlyOf n Groups.None = Groups.None
 
-abbrev pub zero : Wide
-zero = record { high = 0; low = 0 }
+-- no group read yet
+abbrev pub allZero : Wide
+allZero = record { high = 0; low = 0 }

@@ -4,7 +4,7 @@ use numbers::Number;
 ghost use mathlib.Core.Path.{_≡_};
 ghost use Prim.Native.Nat.{_+_, _-_, _≤_, _<_};
 ghost use lib.ListN.{length, take, drop, replicate};
-ghost use Rattle.addresses.specs.Groups.{separatorOf, shortOf, groupOf, parts, valuesOf, pushOf, pushAll, heard, zero, onlyOf};
+ghost use Rattle.addresses.specs.Groups.{separatorOf, shortOf, groupOf, parts, valuesOf, pushOf, pushAll, heard, allZero, onlyOf};
 ghost use Rattle.addresses.specs.Addresses.{quadOf, gap, sideOf, filled, groupsIn, frontOf, wideOf, wholeOf, endOf, halfOf, bothOf};
 
 // How an address is written: octets between dots, or groups of hex digits between colons.
@@ -187,7 +187,7 @@ fn zeros(wide: Wide, count: usize) -> Wide
 fn shortened(t: &[u8], at: usize, whole: usize) -> Groups
     requires { ⌜ at + 2 ≤ length (now t) ⌝ }
     requires { ⌜ whole ≤ 8 ⌝ }
-    ensures { λ r. ⌜ r ≡ heard Form.Hexed 0 zero (filled whole (sideOf (take at (now (t .entry)))) (sideOf (drop (at + 2) (now (t .entry))))) ⌝ }
+    ensures { λ r. ⌜ r ≡ heard Form.Hexed 0 allZero (filled whole (sideOf (take at (now (t .entry)))) (sideOf (drop (at + 2) (now (t .entry))))) ⌝ }
 {
     let Groups::Are { count, wide } = side(&t[..at], 0, Wide { high: 0, low: 0 }) else {
         return Groups::None;
@@ -209,7 +209,7 @@ fn shortened(t: &[u8], at: usize, whole: usize) -> Groups
 // So many groups, or fewer with one `::`.
 fn groups_in(t: &[u8], whole: usize) -> Groups
     requires { ⌜ whole ≤ 8 ⌝ }
-    ensures { λ r. ⌜ r ≡ heard Form.Hexed 0 zero (groupsIn whole (now (t .entry))) ⌝ }
+    ensures { λ r. ⌜ r ≡ heard Form.Hexed 0 allZero (groupsIn whole (now (t .entry))) ⌝ }
 {
     let at = gap_at(t);
     if at < t.len() {

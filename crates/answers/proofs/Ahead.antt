@@ -40,14 +40,14 @@ use Rattle.grammar.specs.Grammar as grammar
 use Rattle.grammar.proofs.Bools.{and-l, and-r}
 use Rattle.answers.specs.Source.{source, lookOf, lookAfter, textToken, pieceOf}
 
-true-T : {b : Bool} → b ≡ true → T b
+pub true-T : {b : Bool} → b ≡ true → T b
 true-T e = subst T (sym e) tt
 
-left-true : (a b : Bool) → (a && b) ≡ true → a ≡ true
+pub left-true : (a b : Bool) → (a && b) ≡ true → a ≡ true
 left-true true b e = refl
 left-true false b e = e
 
-right-true : (a b : Bool) → (a && b) ≡ true → b ≡ true
+pub right-true : (a b : Bool) → (a && b) ≡ true → b ≡ true
 right-true true b e = e
 right-true false b e = let z : _≡_ {A = ℕ} 0 1 = cc in absurd (omega arith)
 

@@ -9,17 +9,24 @@ use lib.ListN.{length, replicate}
 use native.Mathlib.Omega.{arith}
 use Rattle.chars.specs.declared.Answer.{Answer}
 use Rattle.tokens.specs.Tokens.{counted}
-use Rattle.grammar.specs.Grammar.{Parts}
+use Rattle.grammar.specs.Grammar.{Symbol, Stream, Parts, Language}
+use Rattle.grammar.specs.Limits.{Counts, kept}
+use Rattle.grammar.specs.Readings.{ReadingBy, reads-end, reads-token, reads-phrase, reads-unless, reads-note, reads-side, reads-text}
+use Rattle.grammar.specs.Language.{roto}
+use Rattle.grammar.specs.Culprit.{any}
 use Rattle.grammar.specs.Rows.{width, flat, nodes}
 use Rattle.grammar.specs.Answers.{accepts, stops, leaves}
 use Rattle.grammar.proofs.Bools.{T→eq, and-r, or-cases}
-use Rattle.grammar.proofs.Demand.{is-refusal, refused-number, the-reading, row-count}
+use Rattle.grammar.proofs.Core.{unique}
+use Rattle.grammar.proofs.Checks.{roto-good, goal-closed}
+use Rattle.grammar.proofs.Demand.{last, at-end, is-refusal, refused-number, the-reading, row-count}
 use Rattle.answers.specs.Source.{source}
 use Rattle.answers.specs.Entries.{room, Permitted, early, read}
 use Rattle.answers.specs.Demands.{rowsOf, itself, Demand1, Demand3}
 use Rattle.answers.proofs.Scans.{look-number}
 use Rattle.answers.proofs.Determined.{whole-number, one-permitted, accepted-reads, reading-accepted}
 use Rattle.answers.proofs.Bytes.{a-permitted}
+use Rattle.answers.proofs.Shebang.{reading-fine}
 
 -- 4 to 9 and 11
 refusal-small : (n : ℕ) → T (is-refusal n) → n ≤ 11
@@ -27,6 +34,16 @@ refusal-small n h = elim (or-cases (leb n 9) (eqb n 11) (and-r (leb 4 n) (leb n 
   | inl k ↦ (let x = leb→le n 9 k in omega arith)
   | inr k ↦ (let x = eqb→eq n 11 k in omega arith)
 ]
+
+-- a reading is one by the rules alone
+loosen : {S : Stream} {l : Language} {d : Counts} {w : List Symbol} {i r : S .Place} {p : Parts} → ReadingBy S l kept d w i r p → ReadingBy S l any d w i r p
+loosen reads-end = reads-end
+loosen (reads-token e m k u) = reads-token e m tt (loosen u)
+loosen (reads-phrase c u v) = reads-phrase c (loosen u) (loosen v)
+loosen (reads-unless m u) = reads-unless m (loosen u)
+loosen (reads-note u) = reads-note (loosen u)
+loosen (reads-side c u m v) = reads-side c (loosen u) m (loosen v)
+loosen (reads-text e k u) = reads-text e tt (loosen u)
 
 module _ (tests tree : Bool) (s : List ℕ) (size : ℕ) where
   counted-number : (n k : ℕ) → (counted (length s) n k) .number ≤ 11
@@ -67,8 +84,9 @@ module _ (tests tree : Bool) (s : List ℕ) (size : ℕ) where
   pub demand-3 : Demand3 tests tree s size
   demand-3 = record {
     only-readings = λ x e. let k = accepted-reads tests tree s size x e in (k .parts, k .text);
-    all-readings = λ {a} {t} {p} x e r h. ap (λ (q : Answer). q .number) (one-permitted tests tree s size x (reading-accepted tests tree s size e r) .0) ∙ fits (length (rowsOf tree s p)) (room size) h;
-    one-reading = the-reading (source s) tests tree;
+    all-readings = λ {a} {t} {p} x short low r h. ap (λ (q : Answer). q .number) (one-permitted tests tree s size x (reading-accepted tests tree s size (reading-fine tests tree s short low r) r) .0) ∙ fits (length (rowsOf tree s p)) (room size) h;
+    by-the-rules = λ r. record { stop = r .stop; reads = loosen (r .reads); whole = r .whole };
+    one-reading = λ r q. (unique (source s) (roto tests) (roto-good tests) (last (roto tests)) (goal-closed tests tree) (at-end (source s) (roto tests) (r .stop) (r .whole)) (at-end (source s) (roto tests) (q .stop) (q .whole)) (r .reads) (q .reads)) .1;
     its-table = λ {a} {t} {p} x e r. let k = accepted-reads tests tree s size x e in k .table ∙ ap (λ (q : Parts). flat (rowsOf tree s q) ++ replicate (size - width * length (rowsOf tree s q)) 0) (the-reading (source s) tests tree (k .text) r);
     its-count = λ {a} {t} {p} x e r. let k = accepted-reads tests tree s size x e in ap (λ (q : Answer). q .count) (k .answer) ∙ ap (λ (q : Parts). length (rowsOf tree s q)) (the-reading (source s) tests tree (k .text) r) ∙ row-count (source s) tests tree (length s) p ∙ ap (λ (n : ℕ). nodes p + n) (same tree);
   }

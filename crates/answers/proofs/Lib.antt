@@ -5,4 +5,6 @@ pub mod Bytes
 pub mod Computed
 pub mod Opened
 pub mod Worked
+pub mod Spelled
+pub mod Shebang
 pub mod Demands

@@ -8,7 +8,7 @@ use Rattle.tokens.specs.Rules.{whenFit, signFit, thenFit, pairAt, colonsAt, fra
 use Rattle.tokens.specs.Tokens.{stepAt, wholeOf}
 use Rattle.numbers.specs.Digits.{digitOf, valueFrom, allBelow, plain, numberFrom, numberOf}
 use Rattle.numbers.specs.Texts.{ahead, untilByte}
-use Rattle.numbers.specs.Numbers.{placeIn, suffixOf, ceilingOf, asInteger, integerWith, integerOf, floatWith, floatOf, hexOf, asOf}
+use Rattle.numbers.specs.Numbers.{placeIn, suffixOf, ceilingOf, asInteger, integerWith, integerOf, floatWith, pointAt, floatOf, hexOf, asOf}
 use Rattle.addresses.specs.Groups.{shortOf, groupOf, parts, valuesOf}
 use Rattle.addresses.specs.Addresses.{exactly, octetsOf, quadOf, gap, sideOf, filled, groupsIn, frontOf, groupsWith, groupsOf, wideOf}
 use Rattle.strings.specs.Escapes.{simpleOf, asciiOf, scalarOf, unicodeOf, plainEscape, escapeOf, pieceOf}
@@ -28,7 +28,7 @@ unfolding byteAt isClass span pastSpan pastRun behindLast bytes same twoSigns on
 lexer = tt
 
 unfoldable pub values : Unit {0}
-unfolding digitOf valueFrom allBelow plain numberFrom numberOf ahead untilByte placeIn suffixOf ceilingOf asInteger integerWith integerOf floatWith floatOf hexOf asOf shortOf groupOf parts valuesOf exactly octetsOf quadOf gap sideOf filled groupsIn frontOf groupsWith groupsOf wideOf simpleOf asciiOf scalarOf unicodeOf plainEscape escapeOf pieceOf codesFrom measureOf isQuoted sizeOf wholly charOf utf8 encode boolOf literalOf pastOpen pastClose pastCode pastEscape pastItem pastItems endAt partAt halved textOf
+unfolding digitOf valueFrom allBelow plain numberFrom numberOf ahead untilByte placeIn suffixOf ceilingOf asInteger integerWith integerOf floatWith pointAt floatOf hexOf asOf shortOf groupOf parts valuesOf exactly octetsOf quadOf gap sideOf filled groupsIn frontOf groupsWith groupsOf wideOf simpleOf asciiOf scalarOf unicodeOf plainEscape escapeOf pieceOf codesFrom measureOf isQuoted sizeOf wholly charOf utf8 encode boolOf literalOf pastOpen pastClose pastCode pastEscape pastItem pastItems endAt partAt halved textOf
 values = tt
 
 unfoldable pub reader : Unit {0}

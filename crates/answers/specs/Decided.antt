@@ -208,4 +208,31 @@ decided =
     expr-fails "a**b" 6 2 3 ∷
     expr-fails "a/*b" 6 2 3 ∷
     expr-has "a//x\rb" (row 1 0 1 0 0 0 ∷ row 2 0 1 1 0 0 ∷ []) ∷
+    -- kinds and details that no source above has: a bool, the two loops, both filters; each sign, each suffix
+    expr-has "true" (row 12 0 4 0 1 0 ∷ []) ∷
+    expr-has "false" (row 12 0 5 0 0 0 ∷ []) ∷
+    expr-has "while a {}" (row 1 6 7 0 0 0 ∷ row 2 6 7 1 0 0 ∷ row 35 8 10 0 0 0 ∷ row 29 0 10 2 0 0 ∷ []) ∷
+    expr-has "for a in b {}" (row 1 4 5 0 0 0 ∷ row 1 9 10 0 0 0 ∷ row 2 9 10 1 0 0 ∷ row 35 11 13 0 0 0 ∷ row 30 0 13 3 0 0 ∷ []) ∷
+    tree-has "filter f() {}" (row 1 7 8 0 0 0 ∷ row 35 11 13 0 0 0 ∷ row 45 0 13 2 0 1 ∷ row 43 0 13 1 0 0 ∷ []) ∷
+    tree-has "filtermap f() {}" (row 1 10 11 0 0 0 ∷ row 35 14 16 0 0 0 ∷ row 45 0 16 2 0 2 ∷ row 43 0 16 1 0 0 ∷ []) ∷
+    expr-has "a||b" (row 1 0 1 0 0 0 ∷ row 2 0 1 1 0 0 ∷ row 1 3 4 0 0 0 ∷ row 2 3 4 1 0 0 ∷ row 20 0 4 2 0 1 ∷ []) ∷
+    expr-has "a&&b" (row 1 0 1 0 0 0 ∷ row 2 0 1 1 0 0 ∷ row 1 3 4 0 0 0 ∷ row 2 3 4 1 0 0 ∷ row 20 0 4 2 0 2 ∷ []) ∷
+    expr-has "a==b" (row 1 0 1 0 0 0 ∷ row 2 0 1 1 0 0 ∷ row 1 3 4 0 0 0 ∷ row 2 3 4 1 0 0 ∷ row 20 0 4 2 0 3 ∷ []) ∷
+    expr-has "a!=b" (row 1 0 1 0 0 0 ∷ row 2 0 1 1 0 0 ∷ row 1 3 4 0 0 0 ∷ row 2 3 4 1 0 0 ∷ row 20 0 4 2 0 4 ∷ []) ∷
+    expr-has "a<b" (row 1 0 1 0 0 0 ∷ row 2 0 1 1 0 0 ∷ row 1 2 3 0 0 0 ∷ row 2 2 3 1 0 0 ∷ row 20 0 3 2 0 5 ∷ []) ∷
+    expr-has "a<=b" (row 1 0 1 0 0 0 ∷ row 2 0 1 1 0 0 ∷ row 1 3 4 0 0 0 ∷ row 2 3 4 1 0 0 ∷ row 20 0 4 2 0 6 ∷ []) ∷
+    expr-has "a>b" (row 1 0 1 0 0 0 ∷ row 2 0 1 1 0 0 ∷ row 1 2 3 0 0 0 ∷ row 2 2 3 1 0 0 ∷ row 20 0 3 2 0 7 ∷ []) ∷
+    expr-has "a>=b" (row 1 0 1 0 0 0 ∷ row 2 0 1 1 0 0 ∷ row 1 3 4 0 0 0 ∷ row 2 3 4 1 0 0 ∷ row 20 0 4 2 0 8 ∷ []) ∷
+    expr-has "a/b" (row 1 0 1 0 0 0 ∷ row 2 0 1 1 0 0 ∷ row 1 2 3 0 0 0 ∷ row 2 2 3 1 0 0 ∷ row 20 0 3 2 0 12 ∷ []) ∷
+    expr-has "a%b" (row 1 0 1 0 0 0 ∷ row 2 0 1 1 0 0 ∷ row 1 2 3 0 0 0 ∷ row 2 2 3 1 0 0 ∷ row 20 0 3 2 0 13 ∷ []) ∷
+    expr-has "a-=b" (row 1 0 1 0 0 0 ∷ row 2 0 1 1 0 0 ∷ row 1 3 4 0 0 0 ∷ row 2 3 4 1 0 0 ∷ row 26 0 4 2 0 2 ∷ []) ∷
+    expr-has "a/=b" (row 1 0 1 0 0 0 ∷ row 2 0 1 1 0 0 ∷ row 1 3 4 0 0 0 ∷ row 2 3 4 1 0 0 ∷ row 26 0 4 2 0 4 ∷ []) ∷
+    expr-has "a%=b" (row 1 0 1 0 0 0 ∷ row 2 0 1 1 0 0 ∷ row 1 3 4 0 0 0 ∷ row 2 3 4 1 0 0 ∷ row 26 0 4 2 0 5 ∷ []) ∷
+    expr-has "1i16" (row 10 0 4 0 1 2 ∷ []) ∷
+    expr-has "1i32" (row 10 0 4 0 1 3 ∷ []) ∷
+    expr-has "1i64" (row 10 0 4 0 1 4 ∷ []) ∷
+    expr-has "1u8" (row 10 0 3 0 1 5 ∷ []) ∷
+    expr-has "1u16" (row 10 0 4 0 1 6 ∷ []) ∷
+    expr-has "1u32" (row 10 0 4 0 1 7 ∷ []) ∷
+    expr-has "1.0" (row 11 0 3 0 0 0 ∷ []) ∷
     []

@@ -4,21 +4,28 @@ use mathlib.Core.Path.{_≡_}
 use mathlib.Core.List.{List, _++_}
 use mathlib.Core.Bool.{Bool, true, false}
 use mathlib.Core.Logic.{_≢_}
-use Prim.Native.Nat.{ℕ, _+_, _-_, _*_, _≤_}
+use Prim.Native.Nat.{ℕ, _+_, _-_, _*_, _≤_, _<_}
 use lib.ListN.{length, replicate}
 use Rattle.chars.specs.declared.Answer.{Answer}
-use Rattle.tokens.specs.declared.Whole.the-variants.{Fine}
-use Rattle.tokens.specs.Tokens.{wholeOf}
-use Rattle.grammar.specs.Grammar.{Parts}
-use Rattle.grammar.specs.Readings.{Text}
+use Rattle.chars.specs.Chars.{byteAt}
+use Rattle.grammar.specs.Grammar.{over, Parts}
+use Rattle.grammar.specs.Limits.{zeros}
+use Rattle.grammar.specs.Readings.{ReadingBy, Text}
 use Rattle.grammar.specs.Rows.{width, flat, rows, nodes}
-use Rattle.grammar.specs.Language.{roto, goal}
+use Rattle.grammar.specs.Language.{roto, goal, start}
+use Rattle.grammar.specs.Culprit.{any}
 use Rattle.answers.specs.Source.{source}
 use Rattle.answers.specs.Entries.{room, Permitted}
 
 -- The source has the reading p: it is one phrase to its end, "its literals hold and no limit is passed".
 abbrev pub Reading : Bool → Bool → List ℕ → Parts → Type 0
 Reading tests tree s p = Text (source s) (roto tests) (goal tree) 0 p
+
+-- The source has the reading p by the rules alone: whatever its literals say, and whatever limit it passes.
+pub record ByRules (tests tree : Bool) (s : List ℕ) (p : Parts) : Type 0 where
+  pub stop : ℕ
+  pub reads : ReadingBy (source s) (roto tests) any zeros (start tree) 0 stop p
+  pub whole : (source s) .look stop ≡ over
 
 -- The rows of a reading, and how many nodes it has: (a) has one for the tree itself.
 abbrev pub rowsOf : Bool → List ℕ → Parts → List Rattle.grammar.specs.Rows.Row
@@ -37,11 +44,12 @@ pub record Demand1 (tests tree : Bool) (s : List ℕ) (size : ℕ) : Type 0 wher
   pub refused-zeros : {a : Answer} {t : List ℕ} → Permitted tests tree s size a t → a .number ≢ 0 → t ≡ replicate size 0
 
 -- Demand 3: "Over bytes below 128, and given room, a text is accepted exactly when it has a reading under 01's grammar, its
--- literals hold and no limit is passed. There is one reading, and the table handed back is that one." (`wholeOf s ≡ Fine`:
--- at most 65,535 bytes, each below 128, that don't begin `#!`.) The count is the number of the reading's nodes.
+-- literals hold and no limit is passed. There is one reading, and the table handed back is that one." "A source is 0 to 65,535
+-- bytes." No other reading is there by the rules alone. The count is the number of the reading's nodes.
 pub record Demand3 (tests tree : Bool) (s : List ℕ) (size : ℕ) : Type 0 where
   pub only-readings : {a : Answer} {t : List ℕ} → Permitted tests tree s size a t → a .number ≡ 0 → (p : Parts) × Reading tests tree s p
-  pub all-readings : {a : Answer} {t : List ℕ} {p : Parts} → Permitted tests tree s size a t → wholeOf s ≡ Fine → Reading tests tree s p → length (rowsOf tree s p) ≤ room size → a .number ≡ 0
-  pub one-reading : {p q : Parts} → Reading tests tree s p → Reading tests tree s q → p ≡ q
+  pub all-readings : {a : Answer} {t : List ℕ} {p : Parts} → Permitted tests tree s size a t → length s ≤ 65535 → ((at : ℕ) → at < length s → byteAt s at < 128) → Reading tests tree s p → length (rowsOf tree s p) ≤ room size → a .number ≡ 0
+  pub by-the-rules : {p : Parts} → Reading tests tree s p → ByRules tests tree s p
+  pub one-reading : {p q : Parts} → Reading tests tree s p → ByRules tests tree s q → p ≡ q
   pub its-table : {a : Answer} {t : List ℕ} {p : Parts} → Permitted tests tree s size a t → a .number ≡ 0 → Reading tests tree s p → t ≡ flat (rowsOf tree s p) ++ replicate (size - width * length (rowsOf tree s p)) 0
   pub its-count : {a : Answer} {t : List ℕ} {p : Parts} → Permitted tests tree s size a t → a .number ≡ 0 → Reading tests tree s p → a .count ≡ nodes p + itself tree

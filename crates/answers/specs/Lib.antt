@@ -4,3 +4,4 @@ pub mod Demands
 pub mod Compute
 pub mod Cases
 pub mod Decided
+pub mod Spelled

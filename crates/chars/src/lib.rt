@@ -2,6 +2,7 @@
 ghost use mathlib.Core.Path.{_≡_};
 ghost use Rattle.chars.specs.Chars.{isBlank, isDigit, isHexDigit, isLetter, isClass, byteAt};
 ghost use Rattle.chars.specs.Runs.{pastRun, behindLast};
+ghost use Rattle.chars.specs.Texts.{same};
 
 pub mod refusal;
 
@@ -97,4 +98,21 @@ pub fn behind_last(s: &[u8], end: usize, c: u16) -> usize
         i -= 1;
     }
     0
+}
+
+// Two texts have the same bytes.
+pub fn same(t: &[u8], u: &[u8]) -> bool
+    ensures { λ r. ⌜ r ≡ same (now (t .entry)) (now (u .entry)) ⌝ }
+{
+    if t.len() != u.len() {
+        return false;
+    }
+    let mut i = 0;
+    while i < t.len() {
+        if t[i] != u[i] {
+            return false;
+        }
+        i += 1;
+    }
+    true
 }

@@ -1,3 +1,3 @@
 mod Fine
 mod Names
-mod Stored
+pub mod Stored

@@ -1,5 +1,5 @@
 -- What the entry points answer.
-use mathlib.Core.Bool.{cond}
+use mathlib.Core.Bool.{Bool, _&&_, cond}
 use Prim.Native.Nat.{ℕ, _*_}
 use mathlib.Core.List.{List, []}
 use lib.ListN.{length}
@@ -25,7 +25,15 @@ abbrev pub leftBy : List ℕ → Read → List ℕ
 leftBy t (Done m h) = keptRows t (h .rows)
 leftBy t (Refused r) = zeroed t 0
 
+-- "a row of kind 1" whose span fits
+unfoldable pub nameFits : List ℕ → ℕ → ℕ → ℕ → Bool
+nameFits s kind start end = eqb kind 1 && (leb start end && leb end (length s))
+
 -- "(d) gives the part of the source that a row of kind 1 spans, and the empty part at the front for any other row or a
 -- span that doesn't fit."
 unfoldable pub nameText : List ℕ → ℕ → ℕ → ℕ → List ℕ
-nameText s kind start end = cond (eqb kind 1) (cond (leb start end) (cond (leb end (length s)) (slice start end s) []) []) []
+nameText s kind start end = cond (nameFits s kind start end) (slice start end s) []
+
+-- how far behind the source's first byte that part lies
+unfoldable pub nameStart : List ℕ → ℕ → ℕ → ℕ → ℕ
+nameStart s kind start end = cond (nameFits s kind start end) start 0

@@ -1,19 +1,18 @@
-// Entry points (a), (b) and (d).
+// What entry points (a) and (b) answer to what was read, and entry point (d).
 ghost use mathlib.Core.Path.{_≡_};
-ghost use mathlib.Core.Bool.{true, false};
-ghost use lib.ListN.{length as len};
+ghost use Prim.Native.Nat.{_+_};
+ghost use lib.ListN.{length};
 ghost use Rattle.tokens.specs.Tokens.{refusal, counted as countedOf};
 ghost use Rattle.rows.specs.Rows.{zeroed};
-ghost use Rattle.answers.specs.Entries.{room, Permitted};
-ghost use Rattle.entry.specs.Entries.{keptRows, answered, leftBy, nameText};
+ghost use Rattle.answers.specs.Entries.{room};
+ghost use Rattle.entry.specs.Entries.{keptRows, answered, leftBy, nameText, nameStart};
 use chars::Answer;
 use chars::refusal;
 use parser::Read;
 use tokens::Refusal;
-use tokens::Whole;
 
 // A refusal leaves zeros throughout.
-fn refused(table: &mut [u64], r: Refusal) -> Answer
+pub fn refused(table: &mut [u64], r: Refusal) -> Answer
     ensures { λ a. ⌜ (a ≡ refusal r) × (now (table .exit) ≡ zeroed (now (table .entry)) 0) ⌝ }
 {
     rows::clear(table, 0);
@@ -26,15 +25,15 @@ fn refused(table: &mut [u64], r: Refusal) -> Answer
 }
 
 // Zeros behind the rows, where there was room for them.
-fn counted(table: &mut [u64], length: usize, count: usize) -> Answer
-    ensures { λ a. ⌜ (a ≡ countedOf length count (room (len (now (table .entry))))) × (now (table .exit) ≡ keptRows (now (table .entry)) count) ⌝ }
+fn counted(table: &mut [u64], size: usize, count: usize) -> Answer
+    ensures { λ a. ⌜ (a ≡ countedOf size count (room (length (now (table .entry))))) × (now (table .exit) ≡ keptRows (now (table .entry)) count) ⌝ }
 {
     if count <= table.len() / 6 {
         rows::clear(table, count * 6);
         return Answer {
             number: refusal::NONE,
             start: 0,
-            end: length,
+            end: size,
             count,
         };
     }
@@ -47,44 +46,19 @@ fn counted(table: &mut [u64], length: usize, count: usize) -> Answer
     }
 }
 
-fn answer(table: &mut [u64], length: usize, r: Read) -> Answer
-    ensures { λ a. ⌜ (a ≡ answered length (len (now (table .entry))) r) × (now (table .exit) ≡ leftBy (now (table .entry)) r) ⌝ }
+// The answer to a source of so many bytes that was read so, and what is left in the table.
+pub fn answer(table: &mut [u64], size: usize, r: Read) -> Answer
+    ensures { λ a. ⌜ (a ≡ answered size (length (now (table .entry))) r) × (now (table .exit) ≡ leftBy (now (table .entry)) r) ⌝ }
 {
     match r {
-        Read::Done(_, here) => counted(table, length, here.rows),
+        Read::Done(_, here) => counted(table, size, here.rows),
         Read::Refused(why) => refused(table, why),
-    }
-}
-
-// (a): a source to its tree.
-pub fn tree(s: &[u8], table: &mut [u64]) -> Answer
-    ensures { λ a. ⌜ Permitted true true (now (s .entry)) (len (now (table .entry))) a (now (table .exit)) ⌝ }
-{
-    match tokens::check_source(s) {
-        Whole::Refused(why) => refused(table, why),
-        Whole::Fine => {
-            let r = reader::tree(s, table);
-            answer(table, s.len(), r)
-        }
-    }
-}
-
-// (b): a source to one expression.
-pub fn expression(s: &[u8], table: &mut [u64]) -> Answer
-    ensures { λ a. ⌜ Permitted true false (now (s .entry)) (len (now (table .entry))) a (now (table .exit)) ⌝ }
-{
-    match tokens::check_source(s) {
-        Whole::Refused(why) => refused(table, why),
-        Whole::Fine => {
-            let r = reader::expression(s, table);
-            answer(table, s.len(), r)
-        }
     }
 }
 
 // (d): the part of the source that a row of kind 1 spans; else the empty part at the front.
 pub fn name_text(s: &[u8], kind: u64, start: usize, end: usize) -> &[u8]
-    ensures { λ r. ⌜ now r ≡ nameText (now (s .entry)) kind start end ⌝ }
+    ensures { λ r. ⌜ (now r ≡ nameText (now (s .entry)) kind start end) × (r .ptr ≡ (s .entry .ptr .0, s .entry .ptr .1 + nameStart (now (s .entry)) kind start end)) ⌝ }
 {
     if kind != 1 {
         return &s[..0];

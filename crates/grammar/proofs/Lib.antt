@@ -18,3 +18,5 @@ pub mod Picked
 pub mod Open
 pub mod Entry
 pub mod Sampled
+pub mod Returned
+pub mod InARow

@@ -8,4 +8,4 @@ use Rattle.grammar.specs.Samples.{samples, Holds}
 
 pub sampled : Holds samples
 unfolding after inside kept row-of take-note add-token write rows-from rows phrase-row is-path roto run answer
-sampled = (refl, (refl, (refl, (refl, (refl, (refl, tt))))))
+sampled = (refl, (refl, (refl, (refl, (refl, (refl, (refl, tt)))))))

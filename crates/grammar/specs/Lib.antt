@@ -15,3 +15,4 @@ pub mod Phrases
 pub mod Compute
 pub mod Culprit
 pub mod Samples
+pub mod InARow

@@ -4,7 +4,7 @@ use mathlib.Core.List.{List, [], _∷_}
 use mathlib.Core.Bool.{true, false}
 use mathlib.Core.Option.{some}
 use Prim.Native.Nat.{ℕ, zero, suc, _+_}
-use Rattle.grammar.specs.Words.{name, f-quote, text-then-hole, last-text, '==', '=', '-', open-brace, close-brace, open-paren, close-paren, comma}
+use Rattle.grammar.specs.Words.{name, f-quote, text-then-hole, last-text, '==', '=', '-', ':', open-brace, close-brace, open-paren, close-paren, comma, 'if'}
 use Rattle.grammar.specs.Grammar.{Token}
 use Rattle.grammar.specs.Rows.{Row}
 use Rattle.grammar.specs.Answers.{Answer, accepted, refused}
@@ -38,6 +38,8 @@ samples =
     record { words = name ∷ open-paren ∷ close-paren ∷ '=' ∷ name ∷ []; answer = refused (record { number = 8; start = 0; end = 3 }) } ∷
     -- `-(a)`: parentheses widen no span
     record { words = '-' ∷ open-paren ∷ name ∷ close-paren ∷ []; answer = accepted (a-row 1 2 3 0 ∷ a-row 2 2 3 1 ∷ a-row 22 0 3 1 ∷ []) } ∷
+    -- `if f({a: b}) {}`: inside a call's brackets a record may stand, in a head too
+    record { words = 'if' ∷ name ∷ open-paren ∷ open-brace ∷ name ∷ ':' ∷ name ∷ close-brace ∷ close-paren ∷ open-brace ∷ close-brace ∷ []; answer = accepted (a-row 1 1 2 0 ∷ a-row 2 1 2 1 ∷ a-row 1 4 5 0 ∷ a-row 1 6 7 0 ∷ a-row 2 6 7 1 ∷ a-row 37 4 7 2 ∷ a-row 36 3 8 1 ∷ a-row 23 1 9 2 ∷ a-row 35 9 11 0 ∷ a-row 28 0 11 2 ∷ []) } ∷
     -- `f"{a}"`: the hole's expr is the string's only part, as its texts are empty
     record { words = f-quote ∷ text-then-hole ∷ open-brace ∷ name ∷ close-brace ∷ last-text ∷ []; answer = accepted (a-row 1 3 4 0 ∷ a-row 2 3 4 1 ∷ a-row 46 0 6 1 ∷ []) } ∷
     -- 32 `(` and a hole: it counts as one open bracket

@@ -2,18 +2,19 @@
 ghost use mathlib.Core.Path.{_≡_};
 ghost use mathlib.Core.Bool.{true, false};
 ghost use lib.ListN.{set, length};
-ghost use lib.Seq.{sets, slice};
+ghost use lib.Seq.{sets};
 ghost use Rattle.tokens.specs.declared.Refusal.{Refusal};
 ghost use Rattle.tokens.specs.declared.Step.the-variants.{Refused};
-ghost use Rattle.tokens.specs.Tokens.{stepAt, answerOf};
+ghost use Rattle.tokens.specs.Tokens.{stepAt, stepNumbers, answerOf};
 ghost use Rattle.list.specs.Filled.{filled};
 ghost use Rattle.strings.specs.Strings.{answerOf as decodeAnswer, contentOf};
 ghost use Rattle.entry.specs.Entries.{nameText};
-ghost use Rattle.values.specs.Literals.{literalOf};
-ghost use Rattle.lekhyundo.specs.Numbers.{answerNumbers, stepNumbers, literalNumbers};
+ghost use Rattle.values.specs.Literals.{literalAt, literalNumbers};
+ghost use Rattle.lekhyundo.specs.Numbers.{answerNumbers};
 ghost use Rattle.lekhyundo.specs.Entered.{Entered};
 ghost use Rattle.lekhyundo.specs.Floated.{Floated};
 use chars::Answer;
+use reader::entries;
 use tokens::Cursor;
 use tokens::Step;
 use tokens::Token;
@@ -98,7 +99,7 @@ pub extern "C" fn lekhyundo_decode(s: &[u8], out: &mut [u8], answer: &mut [u64])
 // The value of the token of a code between two places: 0, kind, value, detail; or 7 and zeros for a literal without a value.
 #[no_mangle]
 pub extern "C" fn lekhyundo_literal(s: &[u8], code: u64, start: usize, end: usize, out: &mut [u64])
-    ensures { λ r. ⌜ now (out .exit) ≡ sets (now (out .entry)) 0 (literalNumbers (literalOf code (slice start end (now (s .entry))))) ⌝ }
+    ensures { λ r. ⌜ now (out .exit) ≡ sets (now (out .entry)) 0 (literalNumbers (literalAt code start end (now (s .entry)))) ⌝ }
 {
     match values::literal_at(s, code, start, end) {
         Literal::Is {
@@ -125,7 +126,7 @@ pub extern "C" fn lekhyundo_literal(s: &[u8], code: u64, start: usize, end: usiz
 pub extern "C" fn lekhyundo_tree(s: &[u8], table: &mut [u64], answer: &mut [u64])
     ensures { λ r. ⌜ Entered true (now (s .entry)) (length (now (table .entry))) (now (table .exit)) (now (answer .entry)) (now (answer .exit)) ⌝ }
 {
-    let a = entry::tree(s, table);
+    let a = entries::tree(s, table);
     put_answer(answer, a);
 }
 
@@ -134,7 +135,7 @@ pub extern "C" fn lekhyundo_tree(s: &[u8], table: &mut [u64], answer: &mut [u64]
 pub extern "C" fn lekhyundo_expression(s: &[u8], table: &mut [u64], answer: &mut [u64])
     ensures { λ r. ⌜ Entered false (now (s .entry)) (length (now (table .entry))) (now (table .exit)) (now (answer .entry)) (now (answer .exit)) ⌝ }
 {
-    let a = entry::expression(s, table);
+    let a = entries::expression(s, table);
     put_answer(answer, a);
 }
 

@@ -1,6 +1,6 @@
 -- How the answers of `row` and `one_float` follow from the tests.
 use mathlib.Core.Path.{_≡_, refl, sym, ap, _∙_}
-use Prim.Native.Nat.{ℕ, _<_, _≤_}
+use Prim.Native.Nat.{ℕ, _<_, _≤_, zero-le}
 use mathlib.Core.List.{List}
 use lib.ListN.{length}
 use lib.Seq.{slice, take-all}
@@ -15,7 +15,8 @@ use Rattle.tokens.specs.Tokens.{stepAt}
 use Rattle.tokens.specs.Words.{codeOf}
 use Rattle.numbers.proofs.Choices.{not-left, not-right}
 use Rattle.values.specs.declared.Literal.{Literal}
-use Rattle.values.specs.Literals.{literalOf}
+use Rattle.values.specs.Literals.{literalOf, literalAt}
+use Rattle.values.proofs.Literals.{text-fits}
 use Rattle.floats.specs.declared.Width.{Width}
 use Rattle.literals.specs.declared.Alone.{Alone}
 use Rattle.literals.specs.Answers.{rowFor, rowOf, widthOf, floatRow, aloneOf}
@@ -37,9 +38,9 @@ module _ (t : List ℕ) where
     unfolding rowOf rowFor
     ends-else f = rw (h, not-right (eqb a 0) (ne-eqb (n .at) (length t) f))
 
-    pub whole-text : {r : Literal} {c : ℕ} → a ≡ 0 → n .at ≡ length t → c ≡ codeOf w → r ≡ literalOf c (slice 0 (n .at) t) → r ≡ rowOf t
+    pub whole-text : {r : Literal} {c : ℕ} → a ≡ 0 → n .at ≡ length t → c ≡ codeOf w → r ≡ literalAt c 0 (n .at) t → r ≡ rowOf t
     unfolding rowOf rowFor
-    whole-text s e q g = rw (h, eq-eqb a 0 s, eq-eqb (n .at) (length t) e) (g ∙ ap (λ (c : ℕ). literalOf c (slice 0 (n .at) t)) q ∙ ap (literalOf (codeOf w)) (take-all (n .at) t (le-of-eq (sym e))))
+    whole-text {r} {c} s e q g = rw (h, eq-eqb a 0 s, eq-eqb (n .at) (length t) e) (g ∙ sym (text-fits c t 0 (n .at) zero-le (le-of-eq e)) ∙ ap (λ (c : ℕ). literalOf c (slice 0 (n .at) t)) q ∙ ap (literalOf (codeOf w)) (take-all (n .at) t (le-of-eq (sym e))))
 
   pub too-long : 65535 < length t → Alone.None ≡ aloneOf t
   unfolding aloneOf

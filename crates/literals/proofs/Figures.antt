@@ -18,7 +18,7 @@ use Rattle.tokens.specs.Rules.{fractionAt}
 use Rattle.numbers.specs.Digits.{digitOf, valueFrom, valueOf, allBelow, plain}
 use Rattle.numbers.proofs.Choices.{first, second, and, and-left, and-right, in-range}
 use Rattle.numbers.proofs.Digits.{digit-ten}
-use Rattle.numbers.proofs.Texts.{part-slice}
+use Rattle.chars.proofs.Texts.{part-slice}
 use Rattle.floats.proofs.Patterns.{less-or-not}
 use Rattle.floats.proofs.Decimals.{ten-up}
 use Rattle.literals.specs.Decimals.{digitsAt, pointOf, before, after, digits, fromFirst}

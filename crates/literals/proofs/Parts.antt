@@ -10,7 +10,7 @@ use lib.Seq.{slice, drop-drop, length-slice, length-take-le, getD-take}
 use Rattle.chars.specs.Chars.{byteAt}
 use Rattle.chars.specs.Runs.{span, pastSpan, pastRun}
 use Rattle.chars.proofs.Runs.{byte-in, byte-out, byte-drop}
-use Rattle.numbers.proofs.Texts.{part-slice}
+use Rattle.chars.proofs.Texts.{part-slice}
 
 module _ (s : List ℕ) (a e : ℕ) (fits : e ≤ length s) where
   pub part-length : length (slice a e s) ≡ e - a

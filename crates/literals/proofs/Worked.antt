@@ -11,7 +11,7 @@ use Rattle.tokens.specs.Blanks.{skipAll, skipped}
 use Rattle.tokens.specs.Rules.{whenFit, signFit, thenFit, orElse, taken, refused, pairAt, colonsAt, ipv6At, periodAt, ipv4At, twoAt, oneAt, asAt, hexAt, fractionAt, numberAt, quoteAt, nameAt, tokenAt}
 use Rattle.tokens.specs.Tokens.{stepAt}
 use Rattle.numbers.specs.Digits.{numberOf, numberFrom, valueFrom, allBelow, plain, digitOf}
-use Rattle.numbers.specs.Numbers.{integerOf, integerWith, asInteger, ceilingOf, floatOf, floatWith, suffixOf, placeIn, hexOf}
+use Rattle.numbers.specs.Numbers.{integerOf, integerWith, asInteger, ceilingOf, pointAt, floatOf, floatWith, suffixOf, placeIn, hexOf}
 use Rattle.values.specs.Literals.{literalOf}
 use lib.Ieee.{round, toBits}
 use Rattle.floats.specs.Bits.{bitsOf}
@@ -102,5 +102,5 @@ abbrev shown : Answer → List ℕ
 shown a = a .number ∷ a .width ∷ a .bits ∷ []
 
 worked : map (λ c. shown (answerOf (bytes (c .text)))) cases ≡ map (λ c. c .answer) cases
-unfolding answerOf answerFor aloneOf floatRow rowOf rowFor widthOf few fromFirst before after digitsAt bitsOf round toBits stepAt skipAll skipped tokenAt orElse taken refused whenFit signFit thenFit pairAt colonsAt ipv6At periodAt ipv4At twoAt oneAt asAt hexAt fractionAt numberAt codeOf twoSign oneSign twoSigns oneSigns wordIn literalOf byteAt bytes same pastRun pastSpan span isClass integerOf integerWith asInteger ceilingOf floatOf floatWith suffixOf placeIn numberOf numberFrom valueFrom allBelow plain digitOf nameAt nameWord keywords page wordsOf hexOf quoteAt
+unfolding answerOf answerFor aloneOf floatRow rowOf rowFor widthOf few fromFirst before after digitsAt bitsOf round toBits stepAt skipAll skipped tokenAt orElse taken refused whenFit signFit thenFit pairAt colonsAt ipv6At periodAt ipv4At twoAt oneAt asAt hexAt fractionAt numberAt codeOf twoSign oneSign twoSigns oneSigns wordIn literalOf byteAt bytes same pastRun pastSpan span isClass integerOf integerWith asInteger ceilingOf pointAt floatOf floatWith suffixOf placeIn numberOf numberFrom valueFrom allBelow plain digitOf nameAt nameWord keywords page wordsOf hexOf quoteAt
 worked = refl

@@ -6,7 +6,7 @@ use mathlib.Core.Bool.{Bool, true, false, _&&_, _||_, cond}
 use native.Mathlib.Omega.{arith}
 use lib.ListN.{length, take, drop}
 use lib.Dec.{eqb}
-use borrow.Author.Tests.{lt-ltb, le-ltb, ne-eqb}
+use borrow.Author.Tests.{lt-ltb, le-ltb, eq-eqb, ne-eqb}
 use Rattle.chars.specs.declared.Class.{Class}
 use Rattle.chars.specs.Chars.{byteAt, isDigit, isClass}
 use Rattle.chars.specs.Runs.{pastRun}
@@ -15,8 +15,8 @@ use Rattle.numbers.specs.declared.Base.{Base}
 use Rattle.numbers.specs.declared.Number.{Number}
 use Rattle.numbers.specs.declared.Amount.{Amount}
 use Rattle.numbers.specs.Digits.{numberOf, plain}
-use Rattle.numbers.specs.Numbers.{suffixOf, greatest, ceilingOf, asInteger, integerWith, integerOf, floatWith, floatOf}
-use Rattle.numbers.proofs.Choices.{first, second, and-right}
+use Rattle.numbers.specs.Numbers.{suffixOf, greatest, ceilingOf, asInteger, integerWith, integerOf, floatWith, pointAt, floatOf}
+use Rattle.numbers.proofs.Choices.{first, second, and, and-left, and-right, not-left, not-right}
 use Rattle.numbers.proofs.Digits.{plain-whole}
 use Rattle.numbers.proofs.Texts.{tail-part}
 
@@ -53,23 +53,36 @@ module _ (t : List ℕ) {b : ℕ} {u : Bool} (hb : b ≡ byteAt t 0) (hu : u ≡
   unfolding integerOf
   integer-fails f = second _ (said f) refl
 
-abbrev dot-here : ℕ → Bool
-dot-here b = eqb b 46
-
-module _ (t : List ℕ) {dot b : ℕ} (hd : dot ≡ pastRun (isClass Class.Figure) t 0) (hb : b ≡ byteAt t dot) where
-  pub dot-in : eqb b 46 ≡ true → dot < length t
-  dot-in f = within dot-here refl t dot (ap dot-here (sym hb) ∙ f)
-
-  pub fraction-le : {e : ℕ} → eqb b 46 ≡ true → e ≡ pastRun (isClass Class.Figure) t (dot + 1) → e ≤ length t
-  fraction-le f he = rw he (past-le (isClass Class.Figure) t (dot + 1) (omega (arith, dot-in f)))
-
-  pub float-dot : {e s : ℕ} {r : Amount} → eqb b 46 ≡ true → e ≡ pastRun (isClass Class.Figure) t (dot + 1) → s ≡ suffixOf (take (length t - e) (drop e t)) → r ≡ floatWith s → r ≡ floatOf t
+  pub float-begins-else : u ≡ false → Amount.None ≡ floatOf t
   unfolding floatOf
-  float-dot {e} f he hs g = rw (← hd, ← he) (first _ (ap dot-here (sym hb) ∙ f) (g ∙ ap floatWith (hs ∙ ap suffixOf (tail-part t e))))
+  float-begins-else f = second _ (not-left _ (said f)) refl
 
-  pub float-fails : eqb b 46 ≡ false → Amount.None ≡ floatOf t
-  unfolding floatOf
-  float-fails f = rw (← hd) (second _ (ap dot-here (sym hb) ∙ f) refl)
+  -- behind the first digits
+  module _ {dot : ℕ} {p : Bool} (hd : dot ≡ pastRun (isClass Class.Figure) t 0) (hp : p ≡ pointAt t dot) where
+    pub point-in : p ≡ true → dot < length t
+    unfolding pointAt
+    point-in f = within (λ n. eqb n 46) refl t dot (and-left (eqb (byteAt t dot) 46) (isDigit (byteAt t (dot + 1))) (sym hp ∙ f))
+
+    pub fraction-le : {e : ℕ} → p ≡ true → e ≡ pastRun (isClass Class.Figure) t (dot + 1) → e ≤ length t
+    fraction-le f he = rw he (past-le (isClass Class.Figure) t (dot + 1) (omega (arith, point-in f)))
+
+    pub float-dot : {e s : ℕ} {r : Amount} → u ≡ true → p ≡ true → e ≡ pastRun (isClass Class.Figure) t (dot + 1) → s ≡ suffixOf (take (length t - e) (drop e t)) → r ≡ floatWith s → r ≡ floatOf t
+    unfolding floatOf
+    float-dot {e} f q he hs g = rw (← hd, ← he) (first _ (and (said f) (sym hp ∙ q)) (g ∙ ap floatWith (hs ∙ ap suffixOf (tail-part t e))))
+
+    pub float-no-point : p ≡ false → Amount.None ≡ floatOf t
+    unfolding floatOf
+    float-no-point q = rw (← hd) (second _ (not-right (isDigit (byteAt t 0)) (sym hp ∙ q)) refl)
+
+-- `.` and a digit
+module _ (t : List ℕ) (at : ℕ) {x : ℕ} (is : x ≡ byteAt t at) where
+  pub point-on : {b : Bool} → x ≡ 46 → b ≡ isDigit (byteAt t (at + 1)) → b ≡ pointAt t at
+  unfolding pointAt
+  point-on h g = rw (eq-eqb (byteAt t at) 46 (sym is ∙ h)) g
+
+  pub point-off : (x ≡ 46 → ⊥) → false ≡ pointAt t at
+  unfolding pointAt
+  point-off h = rw (ne-eqb (byteAt t at) 46 (λ g. h (is ∙ g)))
 
 pub float-is : (s : ℕ) → ((eqb s 0 || eqb s 9) || eqb s 10) ≡ true → Amount.Float s ≡ floatWith s
 unfolding floatWith

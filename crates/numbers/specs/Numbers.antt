@@ -1,7 +1,7 @@
 -- "Literal values" of document 01: integers, floats, hex numbers, AS numbers.
 use Prim.Native.Nat.{ℕ, _+_}
 use mathlib.Core.List.{List, [], _∷_}
-use mathlib.Core.Bool.{true, _&&_, _||_, cond}
+use mathlib.Core.Bool.{Bool, true, _&&_, _||_, cond}
 use lib.ListN.{length, take, drop, getD}
 use lib.Dec.{eqb, ltb}
 use Rattle.chars.specs.declared.Class.{Class}
@@ -78,11 +78,16 @@ integerOf text =
 unfoldable pub floatWith : ℕ → Amount
 floatWith suffix = cond ((eqb suffix 0 || eqb suffix 9) || eqb suffix 10) (Amount.Float suffix) Amount.None
 
--- digits or `_`, `.`, digits or `_`, and a suffix
+-- "with `.` and a digit next"
+unfoldable pub pointAt : List ℕ → ℕ → Bool
+pointAt text at = eqb (byteAt text at) 46 && isDigit (byteAt text (at + 1))
+
+-- "a digit, then digits or `_`; with `.` and a digit next, that fraction too (digits or `_`)", and a suffix
 unfoldable pub floatOf : List ℕ → Amount
 floatOf text =
     let dot : ℕ = pastRun (isClass Class.Figure) text 0 in
-    cond (eqb (byteAt text dot) 46) (floatWith (suffixOf (drop (pastRun (isClass Class.Figure) text (dot + 1)) text))) Amount.None
+    let suffix : ℕ = suffixOf (drop (pastRun (isClass Class.Figure) text (dot + 1)) text) in
+    cond (isDigit (byteAt text 0) && pointAt text dot) (floatWith suffix) Amount.None
 
 -- "1 digit or more", behind `0x`
 unfoldable pub hexOf : List ℕ → Number

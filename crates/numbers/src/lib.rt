@@ -1,11 +1,13 @@
 // The numbers that digits write, and what integers, floats, hex numbers and AS numbers say.
 use chars::Class;
+use chars::same;
 ghost use mathlib.Core.Path.{_≡_};
 ghost use Prim.Native.Nat.{_<_};
-ghost use Rattle.chars.specs.Texts.{same};
 ghost use Rattle.numbers.specs.Digits.{digitOf, radixOf, addOf, numberOf, plain};
 ghost use Rattle.numbers.specs.Texts.{untilByte};
-ghost use Rattle.numbers.specs.Numbers.{suffixOf, ceilingOf, integerOf, floatOf, hexOf, asOf};
+ghost use Rattle.numbers.specs.Numbers.{suffixOf, ceilingOf, integerOf, pointAt, floatOf, hexOf, asOf};
+
+const PERIOD: u16 = 46;
 
 // The greatest value of a hex number, and of an integer without a suffix.
 const UNSUFFIXED: u64 = 9223372036854775807;
@@ -126,22 +128,6 @@ pub fn until(t: &[u8], at: usize, stop: u16) -> usize
     i
 }
 
-pub fn same(t: &[u8], u: &[u8]) -> bool
-    ensures { λ r. ⌜ r ≡ same (now (t .entry)) (now (u .entry)) ⌝ }
-{
-    if t.len() != u.len() {
-        return false;
-    }
-    let mut i = 0;
-    while i < t.len() {
-        if t[i] != u[i] {
-            return false;
-        }
-        i += 1;
-    }
-    true
-}
-
 // The number of a suffix, and 11 for a text that is none.
 fn suffix(t: &[u8]) -> u64
     ensures { λ r. ⌜ r ≡ suffixOf (now (t .entry)) ⌝ }
@@ -203,15 +189,28 @@ pub fn integer(t: &[u8]) -> Amount
     Amount::None
 }
 
+// `.` and a digit.
+fn point_at(t: &[u8], at: usize) -> bool
+    ensures { λ r. ⌜ r ≡ pointAt (now (t .entry)) at ⌝ }
+{
+    if chars::byte_at(t, at) == PERIOD {
+        chars::is_digit(chars::byte_at(t, at + 1))
+    } else {
+        false
+    }
+}
+
 pub fn float(t: &[u8]) -> Amount
     ensures { λ r. ⌜ r ≡ floatOf (now (t .entry)) ⌝ }
 {
-    let dot = chars::past(t, 0, Class::Figure);
-    if chars::byte_at(t, dot) == 46 {
-        let e = chars::past(t, dot + 1, Class::Figure);
-        let suffix = suffix(&t[e..]);
-        if (suffix == 0) | (suffix == 9) | (suffix == 10) {
-            return Amount::Float(suffix);
+    if chars::is_digit(chars::byte_at(t, 0)) {
+        let dot = chars::past(t, 0, Class::Figure);
+        if point_at(t, dot) {
+            let e = chars::past(t, dot + 1, Class::Figure);
+            let suffix = suffix(&t[e..]);
+            if (suffix == 0) | (suffix == 9) | (suffix == 10) {
+                return Amount::Float(suffix);
+            }
         }
     }
     Amount::None

@@ -6,7 +6,7 @@ use lib.ListN.{length, take, drop}
 use lib.Seq.{slice}
 use borrow.Author.Tests.{eq-eqb, ne-eqb}
 use native.Mathlib.Omega.{arith}
-use Rattle.numbers.proofs.Texts.{part-slice}
+use Rattle.chars.proofs.Texts.{part-slice}
 use Rattle.strings.specs.declared.Size.{Size}
 use Rattle.texts.specs.declared.Part.{Part}
 use Rattle.texts.specs.declared.Part.the-variants.{Before, Ends, None}

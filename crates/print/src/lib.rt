@@ -4,6 +4,7 @@ ghost use lib.ListN.{length};
 use chars::Answer;
 use chars::refusal;
 use libc::STDOUT_FILENO;
+use reader::entries;
 use tokens::Cursor;
 use tokens::Step;
 
@@ -131,13 +132,13 @@ fn answer_rows(a: Answer, table: &[u64]) {
 
 // (a): the answer, and the rows where it accepts.
 pub fn answer_tree(s: &[u8], table: &mut [u64]) {
-    let a = entry::tree(s, table);
+    let a = entries::tree(s, table);
     answer_rows(a, table);
 }
 
 // (b): likewise.
 pub fn answer_expression(s: &[u8], table: &mut [u64]) {
-    let a = entry::expression(s, table);
+    let a = entries::expression(s, table);
     answer_rows(a, table);
 }
 

@@ -13,10 +13,12 @@ use native.Mathlib.Omega.{arith}
 use Rattle.tokens.specs.declared.Refusal.{Refusal}
 use Rattle.tokens.specs.declared.Cursor.{Cursor}
 use Rattle.tokens.specs.declared.Step.the-variants.{Taken}
+use Rattle.tokens.proofs.Steps.{taken-good}
 use Rattle.rows.specs.declared.Row.{Row}
 use Rattle.rows.specs.Rows.{putRow}
 use Rattle.values.specs.declared.Literal.{Literal}
-use Rattle.values.specs.Literals.{literalOf}
+use Rattle.values.specs.Literals.{literalOf, literalAt}
+use Rattle.values.proofs.Literals.{text-fits}
 use Rattle.grammar.specs.Words.{literals}
 use Rattle.grammar.specs.Grammar.{same, Token, one-of}
 use Rattle.grammar.specs.Limits.{Counts, zeros, inside, kept}
@@ -98,9 +100,14 @@ module _ (s : List ℕ) (d : Counts) (h : Here) (t : List ℕ) (g : Stands s h) 
         })
 
 -- the same from the token that the literal's step gives
-module _ (s : List ℕ) (d : Counts) (h : Here) (t : List ℕ) (g : Stands s h) (o : T (one-of (wordOf h) literals)) {w a : ℕ} {next : Cursor} (i : h .step ≡ Taken w a next) {n : ℕ} {x : Literal} (c : n ≡ codeOf w) (p : x ≡ literalOf n (slice a (next .at) s)) where
+module _ (s : List ℕ) (d : Counts) (h : Here) (t : List ℕ) (g : Stands s h) (o : T (one-of (wordOf h) literals)) {w a : ℕ} {next : Cursor} (i : h .step ≡ Taken w a next) {n : ℕ} {x : Literal} (c : n ≡ codeOf w) (p : x ≡ literalAt n a (next .at) s) where
+  -- a token lies inside its source
+  inside-source : (a ≤ next .at) × (next .at ≤ length s)
+  unfolding hereAt
+  inside-source = let f = taken-good s (h .place) (sym (ap (λ (z : Here). z .step) (g .seen)) ∙ i) in (omega arith, f .2)
+
   token-value : x ≡ literalOf (codeOf (wordOf h)) (slice (startOf h) (endOf h) s)
-  token-value = p ∙ ap (λ (y : ℕ). literalOf y (slice a (next .at) s)) (c ∙ ap codeOf (word-taken i)) ∙ ap (λ (y : ℕ). literalOf (codeOf (wordOf h)) (slice y (next .at) s)) (sym (start-taken i)) ∙ ap (λ (y : ℕ). literalOf (codeOf (wordOf h)) (slice (startOf h) y s)) (sym (end-taken i))
+  token-value = p ∙ sym (text-fits n s a (next .at) (inside-source .0) (inside-source .1)) ∙ ap (λ (y : ℕ). literalOf y (slice a (next .at) s)) (c ∙ ap codeOf (word-taken i)) ∙ ap (λ (y : ℕ). literalOf (codeOf (wordOf h)) (slice y (next .at) s)) (sym (start-taken i)) ∙ ap (λ (y : ℕ). literalOf (codeOf (wordOf h)) (slice (startOf h) y s)) (sym (end-taken i))
 
   pub token-none : {r : Read} → x ≡ Literal.None → r ≡ Refused (refusalAt 7 a (next .at)) → Answers (the s d LITERAL h t) 1 r t
   token-none q e = literal-none s d h t g o token-value q (e ∙ ap (λ (y : ℕ). Refused (refusalAt 7 y (next .at))) (sym (start-taken i)) ∙ ap (λ (y : ℕ). Refused (refusalAt 7 (startOf h) y)) (sym (end-taken i)))

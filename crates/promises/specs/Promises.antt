@@ -17,7 +17,7 @@ use Rattle.rows.specs.Rows.{putRow}
 use Rattle.grammar.specs.Words.{open-brace, close-brace, 'in', dot, ':', semicolon, '->', names}
 use Rattle.grammar.specs.Grammar.{plain, closes-bracket, body, Symbol, one-of}
 use Rattle.grammar.specs.Limits.{Counts, after, inside}
-use Rattle.grammar.specs.Table.{a, behind, word, row, part, opens, closes}
+use Rattle.grammar.specs.Table.{a, behind, row, part, opens, closes}
 use Rattle.grammar.specs.Kinds.{no-records, NAME, RESULT, LET-TYPE, IMPORTPATH-DOT, STATEMENTS, STATEMENT, AFTER-FOUR, AFTER-EXPR, FIELDS, FIELDS-MORE, FIELD, ELSE, ELSE-PART, BLOCK, ARMS, ARM-BODY, ARM-COMMA, ARM-NEXT, GUARD, EXPR, BINARY, AND, COMPARE, SUM, PRODUCT, OPERAND, POSTFIX, AFTER-PATH}
 use Rattle.grammar.specs.Rows as grammar
 use Rattle.grammar.specs.Answers.{accepted, refused}
@@ -175,12 +175,6 @@ Headed ss s h t l start r t′ =
 
 abbrev pub afterIf : List Symbol
 afterIf = a (EXPR no-records) ∷ behind BLOCK ∷ behind ELSE ∷ row kinds.IF ∷ []
-
-abbrev pub afterWhile : List Symbol
-afterWhile = a (EXPR no-records) ∷ behind BLOCK ∷ row kinds.WHILE ∷ []
-
-abbrev pub afterFor : List Symbol
-afterFor = a NAME ∷ word 'in' ∷ a (EXPR no-records) ∷ behind BLOCK ∷ row kinds.FOR ∷ []
 
 abbrev pub afterMatch : List Symbol
 afterMatch = a (EXPR no-records) ∷ opens open-brace ∷ behind ARMS ∷ closes close-brace ∷ row kinds.MATCH ∷ []

@@ -70,6 +70,7 @@ use words::return_detail;
 use words::sign_kind;
 
 mod declarations;
+pub mod entries;
 mod imports;
 mod names;
 mod parts;
@@ -942,7 +943,7 @@ fn let_stmt(s: &[u8], table: &mut [u64], here: Here, limits: Limits) -> Read
 }
 
 // Declarations up to the end of the source, and the tree's row over them.
-pub fn tree(s: &[u8], table: &mut [u64]) -> Read
+fn tree(s: &[u8], table: &mut [u64]) -> Read
     ensures { λ r. ⌜ Finished true (now (s .entry)) (now (table .entry)) r (now (table .exit)) ⌝ }
 {
     if MOST_BYTES < s.len() {
@@ -966,7 +967,7 @@ pub fn tree(s: &[u8], table: &mut [u64]) -> Read
 }
 
 // One expression and the end of the source.
-pub fn expression(s: &[u8], table: &mut [u64]) -> Read
+fn expression(s: &[u8], table: &mut [u64]) -> Read
     ensures { λ r. ⌜ Finished false (now (s .entry)) (now (table .entry)) r (now (table .exit)) ⌝ }
 {
     if MOST_BYTES < s.len() {

@@ -18,7 +18,8 @@ use Rattle.numbers.specs.Digits.{digitOf, allBelow, plain, numberOf}
 use Rattle.numbers.specs.Texts.{untilByte}
 use Rattle.numbers.proofs.Choices.{second, and-left, and-right}
 use Rattle.numbers.proofs.Digits.{number-says}
-use Rattle.numbers.proofs.Texts.{part-slice, until-ge}
+use Rattle.chars.proofs.Texts.{part-slice}
+use Rattle.numbers.proofs.Texts.{until-ge}
 use Rattle.strings.specs.declared.Piece.{Piece}
 use Rattle.strings.specs.Escapes.{isBare, simpleOf, isScalar, asciiOf, scalarOf, unicodeOf, plainEscape, escapeOf, pieceOf}
 use Rattle.strings.specs.Strings.{after, codesOf, openFor}

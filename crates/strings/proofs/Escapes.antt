@@ -16,7 +16,8 @@ use Rattle.numbers.specs.Digits.{digitOf, numberOf, plain}
 use Rattle.numbers.specs.Texts.{untilByte}
 use Rattle.numbers.proofs.Choices.{so, first, second, and-left, and-right}
 use Rattle.numbers.proofs.Digits.{number-says}
-use Rattle.numbers.proofs.Texts.{part-slice, until-ge}
+use Rattle.chars.proofs.Texts.{part-slice}
+use Rattle.numbers.proofs.Texts.{until-ge}
 use Rattle.strings.specs.declared.Piece.{Piece}
 use Rattle.strings.specs.Escapes.{isBare, simpleOf, isScalar, asciiOf, scalarOf, unicodeOf, plainEscape, escapeOf, pieceOf}
 

@@ -13,7 +13,7 @@ use borrow.Author.Tests.{le-leb, lt-leb, leb-true, eq-eqb, ne-eqb, eqb-true, lt-
 use Rattle.chars.specs.Chars.{byteAt}
 use Rattle.chars.proofs.Runs.{byte-in}
 use Rattle.numbers.proofs.Choices.{so, first, second, and, and-left, and-right, not-left, not-right}
-use Rattle.numbers.proofs.Texts.{part-slice}
+use Rattle.chars.proofs.Texts.{part-slice}
 use Rattle.strings.specs.declared.Piece.{Piece}
 use Rattle.strings.specs.declared.Size.{Size}
 use Rattle.strings.specs.declared.Point.{Point}

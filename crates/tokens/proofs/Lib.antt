@@ -1,10 +1,10 @@
 mod Fits
 mod Pairs
 mod Blanks
-mod Texts
 mod Tables
 mod Names
 mod Rules
 mod Answers
 pub mod Steps
 pub mod Lists
+pub mod Only

@@ -10,7 +10,7 @@ use Rattle.chars.specs.Texts.{same}
 use Rattle.tokens.specs.Words.{Entry, Line, wordIn, twoSigns, oneSigns, twoSign, oneSign, page, wordsOf, keywordOf, under, keywordUnder}
 use Rattle.tokens.proofs.Fits.{not-first, not-second}
 use Rattle.tokens.proofs.Pairs.{fst, snd}
-use Rattle.tokens.proofs.Texts.{same-length}
+use Rattle.chars.proofs.Texts.{same-length}
 
 -- every entry of a table passes a test
 abbrev pub all : (Entry → Bool) → List Entry → Bool

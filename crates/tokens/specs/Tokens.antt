@@ -1,5 +1,5 @@
 -- The next token at a place, the whole list, and the answer to a source.
-use mathlib.Core.Bool.{cond}
+use mathlib.Core.Bool.{Bool, _||_, cond}
 use Prim.Native.Nat.{ℕ, zero, suc, _+_}
 use mathlib.Core.List.{List, [], _∷_}
 use lib.ListN.{length}
@@ -22,6 +22,11 @@ use Rattle.tokens.specs.Rules.{tokenAt, refused, pairAt}
 -- what stands at a place, behind what is skipped; at the end 11, "source ends too early: length, length"
 unfoldable pub stepAt : List ℕ → ℕ → Step
 stepAt s at = let a : ℕ = skipAll s at in cond (ltb a (length s)) (tokenAt s a) (refused 11 (length s) (length s))
+
+-- What the cases of a step say in document 01's numbers: a token as 0, its ends, its code and its word; a refusal as its number and place, and zeros
+unfoldable pub stepNumbers : Step → List ℕ
+stepNumbers (Taken w a next) = 0 ∷ a ∷ next .at ∷ codeOf w ∷ w ∷ []
+stepNumbers (Refused r) = r .number ∷ r .start ∷ r .end ∷ 0 ∷ 0 ∷ []
 
 abbrev pub bad : ℕ → ℕ → ℕ → Whole
 bad n a e = Bad (record { number = n; start = a; end = e })
@@ -71,10 +76,15 @@ unfoldable pub lastOf : Step → ℕ → ℕ → ℕ → Answer
 lastOf (Taken w a next) len count room = counted len count room
 lastOf (Refused r) len count room = cond (eqb (r .number) 11) (counted len count room) (refusal r)
 
+-- What the cases of `Whole` say in document 01's numbers: 1, 2 or 3 with its place, or the answer to what is read then
 abbrev pub unless : Whole → Answer → Answer
 unless Fine a = a
 unless (Bad r) a = refusal r
 
--- the answer of (c): "(c) gives only 0 to 5 and 10"
+-- "(c) gives only 0 to 5 and 10" (proofs/Only.antt)
+abbrev pub isGiven : ℕ → Bool
+isGiven n = leb n 5 || eqb n 10
+
+-- the answer of (c)
 unfoldable pub answerOf : List ℕ → ℕ → Answer
 answerOf s room = unless (wholeOf s) (ended (length s) (listOf s) room)

@@ -1,25 +1,8 @@
 // The keywords as the manual prints them: by length, and each length's by the alphabet.
 ghost use mathlib.Core.Path.{_≡_};
-ghost use Rattle.chars.specs.Texts.{same};
 ghost use Rattle.tokens.specs.Words.{keywordOf, keywordUnder, nameWord};
 use super::word;
-
-// Two texts have the same bytes.
-fn same(t: &[u8], u: &[u8]) -> bool
-    ensures { λ r. ⌜ r ≡ same (now (t .entry)) (now (u .entry)) ⌝ }
-{
-    if t.len() != u.len() {
-        return false;
-    }
-    let mut i = 0;
-    while i < t.len() {
-        if t[i] != u[i] {
-            return false;
-        }
-        i += 1;
-    }
-    true
-}
+use chars::same;
 
 fn two_letters(t: &[u8]) -> u64
     ensures { λ r. ⌜ r ≡ keywordUnder 2 (now (t .entry)) ⌝ }

@@ -7,7 +7,7 @@ ghost use Rattle.chars.specs.Runs.{pastSpan};
 ghost use Rattle.tokens.specs.Words.{codeOf, twoSign, oneSign};
 ghost use Rattle.tokens.specs.Blanks.{pastComment, skipAll};
 ghost use Rattle.tokens.specs.Rules.{pairAt, colonsAt, fractionAt, dottedAt, threeAt, decimalGroup, ipv6At, periodAt, ipv4At, twoAt, oneAt, asAt, hexAt, numberAt, goesOn, escapes, quoteAt, isNameStart, nameAt, tokenAt, taken, refused};
-ghost use Rattle.tokens.specs.Tokens.{stepAt, bad, wholeOf, refusal, counted, lastOf, answerOf};
+ghost use Rattle.tokens.specs.Tokens.{stepAt, stepNumbers, bad, wholeOf, unless, refusal, counted, lastOf, answerOf};
 use chars::Answer;
 use chars::Class;
 use chars::MOST_BYTES;
@@ -457,7 +457,7 @@ impl Cursor {
 
     // What stands behind the blanks and comments at the cursor.
     pub fn step(self, s: &[u8]) -> Step
-        ensures { λ r. ⌜ r ≡ stepAt (now (s .entry)) (self .at) ⌝ }
+        ensures { λ r. ⌜ (r ≡ stepAt (now (s .entry)) (self .at)) × (stepNumbers r ≡ stepNumbers (stepAt (now (s .entry)) (self .at))) ⌝ }
     {
         let at = skip_whitespace(s, self.at);
         if at < s.len() {
@@ -476,7 +476,7 @@ fn refuse_source(number: u64, start: usize, end: usize) -> Whole
 
 // What is refused of a source as a whole, before a token of it is read.
 pub fn check_source(s: &[u8]) -> Whole
-    ensures { λ r. ⌜ r ≡ wholeOf (now (s .entry)) ⌝ }
+    ensures { λ r. ⌜ (r ≡ wholeOf (now (s .entry))) × (unless r ≡ unless (wholeOf (now (s .entry)))) ⌝ }
 {
     if MOST_BYTES < s.len() {
         return refuse_source(refusal::TOO_LONG, MOST_BYTES, MOST_BYTES);
@@ -502,14 +502,14 @@ fn refused_answer(r: Refusal) -> Answer
     }
 }
 
-fn counted_answer(length: usize, count: usize, room: usize) -> Answer
-    ensures { λ r. ⌜ r ≡ counted length count room ⌝ }
+fn counted_answer(size: usize, count: usize, room: usize) -> Answer
+    ensures { λ r. ⌜ r ≡ counted size count room ⌝ }
 {
     if count <= room {
         Answer {
             number: refusal::NONE,
             start: 0,
-            end: length,
+            end: size,
             count,
         }
     } else {
@@ -523,14 +523,14 @@ fn counted_answer(length: usize, count: usize, room: usize) -> Answer
 }
 
 // The answer where the tokens end: at the source's end, or before it.
-fn last_answer(step: Step, length: usize, count: usize, room: usize) -> Answer
-    ensures { λ r. ⌜ r ≡ lastOf step length count room ⌝ }
+fn last_answer(step: Step, size: usize, count: usize, room: usize) -> Answer
+    ensures { λ r. ⌜ r ≡ lastOf step size count room ⌝ }
 {
     let Step::Refused(r) = step else {
-        return counted_answer(length, count, room);
+        return counted_answer(size, count, room);
     };
     if r.number == refusal::ENDS_EARLY {
-        return counted_answer(length, count, room);
+        return counted_answer(size, count, room);
     }
     refused_answer(r)
 }

@@ -1,30 +1,32 @@
 -- The row of a literal, by its token's code and its text.
-use mathlib.Core.Path.{_≡_, sym, ap, _∙_}
+use mathlib.Core.Path.{_≡_, refl, sym, ap, _∙_}
 use Prim.Native.Nat.{ℕ, _-_, _<_, _≤_}
-use mathlib.Core.List.{List, []}
-use native.Mathlib.Omega.{arith}
-use lib.ListN.{length, take, drop, length-take, drop-of-length-le}
-use lib.Seq.{slice, take-all}
-use Rattle.numbers.proofs.Texts.{tail-part, part-slice}
+use mathlib.Core.List.{List}
+use lib.Dec.{leb}
+use lib.ListN.{length, take, drop}
+use lib.Seq.{slice}
+use borrow.Author.Tests.{le-leb, lt-leb}
+use Rattle.numbers.proofs.Choices.{first, second, and, not-left, not-right}
+use Rattle.chars.proofs.Texts.{part-slice}
 use Rattle.values.specs.declared.Literal.{Literal}
-use Rattle.values.specs.Literals.{literalOf}
+use Rattle.values.specs.Literals.{literalOf, literalAt}
 
 pub at-code : {code n : ℕ} (text : List ℕ) {r : Literal} → code ≡ n → r ≡ literalOf n text → r ≡ literalOf code text
 at-code text e h = h ∙ sym (ap (λ n. literalOf n text) e)
 
--- a token's text, whatever its ends
-module _ (code : ℕ) (s : List ℕ) (start end : ℕ) {r : Literal} where
-  pub text-inside : r ≡ literalOf code (take (end - start) (drop start s)) → r ≡ literalOf code (slice start end s)
-  text-inside h = h ∙ ap (literalOf code) (part-slice start end s)
+-- a token's text, by the tests on its ends
+module _ (code : ℕ) (s : List ℕ) (start end : ℕ) where
+  pub text-fits : start ≤ end → end ≤ length s → literalOf code (slice start end s) ≡ literalAt code start end s
+  unfolding literalAt
+  text-fits h k = first _ (and (le-leb start end h) (le-leb end (length s) k)) refl
 
-  pub text-tail : length s < end → r ≡ literalOf code (take (length s - start) (drop start s)) → r ≡ literalOf code (slice start end s)
-  text-tail k h = h ∙ ap (literalOf code) (tail-part s start ∙ sym (ap (drop start) (take-all end s (omega arith))))
+  pub text-inside : {r : Literal} → start ≤ end → end ≤ length s → r ≡ literalOf code (take (end - start) (drop start s)) → r ≡ literalAt code start end s
+  text-inside h k e = e ∙ ap (literalOf code) (part-slice start end s) ∙ text-fits h k
 
-  empty : length (take end s) ≤ start → r ≡ literalOf code [] → r ≡ literalOf code (slice start end s)
-  empty k h = h ∙ sym (ap (literalOf code) (drop-of-length-le (take end s) {i = start} k))
+  pub text-before : end < start → Literal.None ≡ literalAt code start end s
+  unfolding literalAt
+  text-before h = second _ (not-left _ (lt-leb start end h)) refl
 
-  pub text-before : end < start → r ≡ literalOf code [] → r ≡ literalOf code (slice start end s)
-  text-before k h = empty (rw length-take (omega arith)) h
-
-  pub text-behind : length s < start → r ≡ literalOf code [] → r ≡ literalOf code (slice start end s)
-  text-behind k h = empty (rw length-take (omega arith)) h
+  pub text-beyond : length s < end → Literal.None ≡ literalAt code start end s
+  unfolding literalAt
+  text-beyond h = second _ (not-right (leb start end) (lt-leb end (length s) h)) refl

@@ -1,8 +1,10 @@
 -- The row of a literal token, by the token's code and its text.
-use mathlib.Core.Bool.{cond}
+use mathlib.Core.Bool.{_&&_, cond}
 use Prim.Native.Nat.{ℕ}
-use mathlib.Core.List.{List}
-use lib.Dec.{eqb}
+use mathlib.Core.List.{List, [], _∷_}
+use lib.ListN.{length}
+use lib.Seq.{slice}
+use lib.Dec.{eqb, leb}
 use Rattle.rows.specs.Kinds as kinds
 use Rattle.chars.specs.Texts.{bytes, same}
 use Rattle.numbers.specs.declared.Number.{Number}
@@ -66,3 +68,12 @@ literalOf code text =
     (cond (eqb code 10) (fromPoint (charOf text))
     (cond (eqb code 12) (boolOf text)
     Literal.None))))))))
+
+-- the row of the token that a source has from start to end: a span that doesn't fit has none
+unfoldable pub literalAt : ℕ → ℕ → ℕ → List ℕ → Literal
+literalAt code start end s = cond (leb start end && leb end (length s)) (literalOf code (slice start end s)) Literal.None
+
+-- What the cases of a literal say in document 01's numbers: its row, kind, value and detail, behind 0; or 7, "literal without a value"
+unfoldable pub literalNumbers : Literal → List ℕ
+literalNumbers (Literal.Is k v d) = 0 ∷ k ∷ v ∷ d ∷ []
+literalNumbers Literal.None = 7 ∷ 0 ∷ 0 ∷ 0 ∷ []

@@ -7,8 +7,7 @@ use rows::kind;
 use strings::Point;
 use strings::Size;
 ghost use mathlib.Core.Path.{_≡_};
-ghost use lib.Seq.{slice};
-ghost use Rattle.values.specs.Literals.{fromAmount, fromNumber, fromQuad, fromAddress, fromSize, fromPoint, boolOf, literalOf};
+ghost use Rattle.values.specs.Literals.{fromAmount, fromNumber, fromQuad, fromAddress, fromSize, fromPoint, boolOf, literalOf, literalAt, literalNumbers};
 
 // A literal's row: its kind, its value and its detail.
 pub enum Literal {
@@ -102,14 +101,14 @@ fn from_point(p: Point) -> Literal
 fn bool_of(t: &[u8]) -> Literal
     ensures { λ r. ⌜ r ≡ boolOf (now (t .entry)) ⌝ }
 {
-    if numbers::same(t, b"true") {
+    if chars::same(t, b"true") {
         return Literal::Is {
             kind: kind::BOOL,
             value: 1,
             detail: 0,
         };
     }
-    if numbers::same(t, b"false") {
+    if chars::same(t, b"false") {
         return Literal::Is {
             kind: kind::BOOL,
             value: 0,
@@ -137,19 +136,14 @@ fn of_text(code: u64, t: &[u8]) -> Literal
     }
 }
 
-// The value of the token of a code from start to end.
+// The value of the token of a code from start to end; none where the source has no such part.
 pub fn literal_at(s: &[u8], code: u64, start: usize, end: usize) -> Literal
-    ensures { λ r. ⌜ r ≡ literalOf code (slice start end (now (s .entry))) ⌝ }
+    ensures { λ r. ⌜ (r ≡ literalAt code start end (now (s .entry))) × (literalNumbers r ≡ literalNumbers (literalAt code start end (now (s .entry)))) ⌝ }
 {
-    let n = s.len();
-    if end <= n {
-        if start <= end {
+    if start <= end {
+        if end <= s.len() {
             return of_text(code, &s[start..end]);
         }
-        return of_text(code, &s[..0]);
     }
-    if start <= n {
-        return of_text(code, &s[start..]);
-    }
-    of_text(code, &s[..0])
+    Literal::None
 }

@@ -80,9 +80,14 @@ fn integer(t: &str) -> Row {
     }
 }
 
+/// A digit first and one behind the point, as the token has them.
 fn float(t: &str) -> Row {
+    let digit = |c: char| c.is_ascii_digit();
     let dot = figures(t);
     let rest = t[dot..].strip_prefix('.')?;
+    if !t.starts_with(digit) || !rest.starts_with(digit) {
+        return None;
+    }
     match suffix(&rest[figures(rest)..])? {
         k @ (0 | 9 | 10) => Some((11, 0, k)),
         _ => None,
@@ -200,9 +205,7 @@ impl Tally {
 
     /// A text inside a larger source, and ends that need not fit.
     fn part(&mut self, source: &[u8], code: u64, start: usize, end: usize) {
-        let e = end.min(source.len());
-        let text = if start <= e { &source[start..e] } else { &[] };
-        let want = expected(text, code);
+        let want = source.get(start..end).and_then(|text| expected(text, code));
         let got = ours(source, code, start, end);
         self.note(&format!("{code} {start} {end} {got:?} not {want:?}"), source, got == want, want.is_some());
     }

@@ -12,7 +12,7 @@ name-text-requires c κs = search needs
 
 -- src/lib.rt:128:1
 returns : tie.Need-returns
-returns c = ap length (c .name-text .ensures)
+returns c = ap length (c .name-text .ensures .0)
 
 pub lekhyundo-name-spec : {M : Type 1} → statement M
 lekhyundo-name-spec = tie.close (tie.spec name-text-requires returns)

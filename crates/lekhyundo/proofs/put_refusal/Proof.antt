@@ -1,5 +1,5 @@
 use mathlib.Core.Path.{sym, ap}
-use Rattle.lekhyundo.specs.Numbers.{stepNumbers}
+use Rattle.tokens.specs.Tokens.{stepNumbers}
 use Rattle.lekhyundo.proofs.Stores.{stored5}
 use borrow.Author.Needs.{needs}
 use Rattle.lekhyundo.proofs.put_refusal.Statement.{statement}

@@ -24,11 +24,11 @@ refuse-requires c κs = search needs
 
 returns : tie.Need-returns
 unfolding begun begunBy
-returns c = rw (← (c .before .before .before .before .check-source .ensures), c .before .before .enum-told .given .1) (c .stand .ensures ∙ ap (λ k. standing (c .before .before .before .before .before .before .args .s .now) (c .before .before .before .before .before .before .args .room) (record { at = k }) 0) (c .before .new .ensures))
+returns c = rw (← (c .before .before .before .before .check-source .ensures .0), c .before .before .enum-told .given .1) (c .stand .ensures ∙ ap (λ k. standing (c .before .before .before .before .before .before .args .s .now) (c .before .before .before .before .before .before .args .room) (record { at = k }) 0) (c .before .new .ensures))
 
 returns-2 : tie.Need-returns-2
 unfolding begun begunBy
-returns-2 c = rw (← (c .before .before .before .check-source .ensures), c .before .enum-told2 .given .1) (c .refuse .ensures)
+returns-2 c = rw (← (c .before .before .before .check-source .ensures .0), c .before .enum-told2 .given .1) (c .refuse .ensures)
 
 pub begin-spec : {M : Type 1} → statement M
 begin-spec =

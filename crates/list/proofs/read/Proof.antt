@@ -20,7 +20,7 @@ end-requires c κs = search needs
 
 returns : tie.Need-returns
 unfolding readBy
-returns c = rw (← (c .before .before .before .before .step .ensures), c .before .zero .ensures, c .end .ensures, c .before .before .enum-told .given .1)
+returns c = rw (← (c .before .before .before .before .step .ensures .0), c .before .zero .ensures, c .end .ensures, c .before .before .enum-told .given .1)
 
 code-of-requires : tie.Need-code-of-requires
 code-of-requires c κs = search needs
@@ -33,7 +33,7 @@ stand-requires c κs = search needs
 
 returns-2 : tie.Need-returns-2
 unfolding readBy
-returns-2 c = rw (← (c .before .before .before .before .before .step .ensures), c .before .before .before .step2 .given .1, c .before .code-of .ensures, c .stand .ensures)
+returns-2 c = rw (← (c .before .before .before .before .before .step .ensures .0), c .before .before .before .step2 .given .1, c .before .code-of .ensures, c .stand .ensures)
 
 pub read-spec : {M : Type 1} → statement M
 read-spec =

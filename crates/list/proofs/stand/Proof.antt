@@ -16,7 +16,7 @@ end-requires c κs = search needs
 
 returns-2 : tie.Need-returns-2
 unfolding standing
-returns-2 c = rw (le-ltb _ _ (c .before .before .if1 .left), ← (c .before .step .ensures)) (c .end .ensures)
+returns-2 c = rw (le-ltb _ _ (c .before .before .if1 .left), ← (c .before .step .ensures .0)) (c .end .ensures)
 
 pub stand-spec : {M : Type 1} → statement M
 stand-spec = tie.close (tie.spec returns step-requires end-requires returns-2)

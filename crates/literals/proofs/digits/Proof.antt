@@ -5,7 +5,7 @@ use mathlib.Core.Bool.{true}
 use Prim.Native.Nat.{ℕ}
 use Rattle.numbers.specs.declared.Base.{Base}
 use Rattle.numbers.specs.Digits.{numberOf, plain}
-use Rattle.numbers.proofs.Texts.{part-slice}
+use Rattle.chars.proofs.Texts.{part-slice}
 use borrow.Author.Needs.{needs}
 use Rattle.literals.proofs.digits.Statement.{statement}
 use Rattle.literals.proofs.digits.Tie as tie

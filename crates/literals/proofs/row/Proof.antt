@@ -18,7 +18,7 @@ enum-told : tie.Need-enum-told
 enum-told c = search needs
 
 returns : tie.Need-returns
-returns c = no-token (c .before .before .before .before .before .args .t .now) (so (at-front (c .before .before .before .before .before .args .t .now) (c .before .before .before .new .ensures) (c .before .before .step .ensures)) (c .enum-told .given .1))
+returns c = no-token (c .before .before .before .before .before .args .t .now) (so (at-front (c .before .before .before .before .before .args .t .now) (c .before .before .before .new .ensures) (c .before .before .step .ensures .0)) (c .enum-told .given .1))
 
 code-of-requires : tie.Need-code-of-requires
 code-of-requires c κs = search needs
@@ -27,13 +27,13 @@ literal-at-requires : tie.Need-literal-at-requires
 literal-at-requires c κs = search needs
 
 returns-2 : tie.Need-returns-2
-returns-2 c = whole-text (c .before .before .before .before .before .before .before .before .before .before .before .args .t .now) (so (at-front (c .before .before .before .before .before .before .before .before .before .before .before .args .t .now) (c .before .before .before .before .before .before .before .before .before .new .ensures) (c .before .before .before .before .before .before .before .before .step .ensures)) (c .before .before .before .before .before .before .step2 .given .1)) (c .before .before .before .before .if1 .taken) (c .before .before .if2 .taken) (c .before .code-of .ensures) (c .literal-at .ensures)
+returns-2 c = whole-text (c .before .before .before .before .before .before .before .before .before .before .before .args .t .now) (so (at-front (c .before .before .before .before .before .before .before .before .before .before .before .args .t .now) (c .before .before .before .before .before .before .before .before .before .new .ensures) (c .before .before .before .before .before .before .before .before .step .ensures .0)) (c .before .before .before .before .before .before .step2 .given .1)) (c .before .before .before .before .if1 .taken) (c .before .before .if2 .taken) (c .before .code-of .ensures) (c .literal-at .ensures .0)
 
 returns-3 : tie.Need-returns-3
-returns-3 c = ends-else (c .before .before .before .before .before .before .before .before .before .args .t .now) (so (at-front (c .before .before .before .before .before .before .before .before .before .args .t .now) (c .before .before .before .before .before .before .before .new .ensures) (c .before .before .before .before .before .before .step .ensures)) (c .before .before .before .before .step2 .given .1)) (c .if2 .left)
+returns-3 c = ends-else (c .before .before .before .before .before .before .before .before .before .args .t .now) (so (at-front (c .before .before .before .before .before .before .before .before .before .args .t .now) (c .before .before .before .before .before .before .before .new .ensures) (c .before .before .before .before .before .before .step .ensures .0)) (c .before .before .before .before .step2 .given .1)) (c .if2 .left)
 
 returns-4 : tie.Need-returns-4
-returns-4 c = starts-later (c .before .before .before .before .before .before .before .args .t .now) (so (at-front (c .before .before .before .before .before .before .before .args .t .now) (c .before .before .before .before .before .new .ensures) (c .before .before .before .before .step .ensures)) (c .before .before .step2 .given .1)) (c .if1 .left)
+returns-4 c = starts-later (c .before .before .before .before .before .before .before .args .t .now) (so (at-front (c .before .before .before .before .before .before .before .args .t .now) (c .before .before .before .before .before .new .ensures) (c .before .before .before .before .step .ensures .0)) (c .before .before .step2 .given .1)) (c .if1 .left)
 
 pub row-spec : {M : Type 1} → statement M
 row-spec =

@@ -12,7 +12,7 @@ step-requires c κs = search needs
 
 returns : tie.Need-returns
 unfolding hereAt
-returns c = ap (λ k. record { step = k; place = c .before .before .args .cursor .at; rows = c .before .before .args .rows }) (c .step .ensures)
+returns c = ap (λ k. record { step = k; place = c .before .before .args .cursor .at; rows = c .before .before .args .rows }) (c .step .ensures .0)
 
 pub look-spec : {M : Type 1} → statement M
 look-spec = tie.close (tie.spec step-requires returns)

@@ -34,7 +34,7 @@ refuse-requires : tie.Need-refuse-requires
 refuse-requires c κs = search needs
 
 returns-2 : tie.Need-returns-2
-returns-2 c = λ d. token-none _ d _ _ (c .before .before .before .before .before .before .before .before .before .before .pre .0) (c .before .before .before .before .before .before .before .before .before .before .pre .1) (c .before .before .before .before .before .before .step .given .1) (c .before .before .before .before .code-of .ensures) (c .before .before .before .literal-at .ensures) (c .before .enum-told2 .given .1) (c .refuse .ensures)
+returns-2 c = λ d. token-none _ d _ _ (c .before .before .before .before .before .before .before .before .before .before .pre .0) (c .before .before .before .before .before .before .before .before .before .before .pre .1) (c .before .before .before .before .before .before .step .given .1) (c .before .before .before .before .code-of .ensures) (c .before .before .before .literal-at .ensures .0) (c .before .enum-told2 .given .1) (c .refuse .ensures)
 
 look-requires : tie.Need-look-requires
 look-requires c κs = search needs
@@ -46,7 +46,7 @@ same-length : tie.Need-same-length
 same-length c = search needs
 
 returns-3 : tie.Need-returns-3
-returns-3 c = λ d. token-read _ d _ _ (c .before .before .before .before .before .before .before .before .before .before .before .before .before .before .before .pre .0) (c .before .before .before .before .before .before .before .before .before .before .before .before .before .before .before .pre .1) (c .before .before .before .before .before .before .before .before .before .before .before .step .given .1) (c .before .before .before .before .before .before .before .before .before .code-of .ensures) (c .before .before .before .before .before .before .before .before .literal-at .ensures) (c .before .before .before .before .before .before .kind .given .1) (c .before .before .before .look .ensures) (c .before .before .finish .ensures)
+returns-3 c = λ d. token-read _ d _ _ (c .before .before .before .before .before .before .before .before .before .before .before .before .before .before .before .pre .0) (c .before .before .before .before .before .before .before .before .before .before .before .before .before .before .before .pre .1) (c .before .before .before .before .before .before .before .before .before .before .before .step .given .1) (c .before .before .before .before .before .before .before .before .before .code-of .ensures) (c .before .before .before .before .before .before .before .before .literal-at .ensures .0) (c .before .before .before .before .before .before .kind .given .1) (c .before .before .before .look .ensures) (c .before .before .finish .ensures)
 
 pub literal-spec : {M : Type 1} → statement M
 literal-spec =

@@ -28,7 +28,7 @@ refused-answer-requires : tie.Need-refused-answer-requires Inv-loop μ-loop
 refused-answer-requires c κs = search needs
 
 returns : tie.Need-returns Inv-loop μ-loop
-returns c = refused-whole _ _ (c .before .before .before .before .check-source .ensures) (c .before .before .r .given .1) (c .refused-answer .ensures)
+returns c = refused-whole _ _ (c .before .before .before .before .check-source .ensures .0) (c .before .before .r .given .1) (c .refused-answer .ensures)
 
 enum-told : tie.Need-enum-told Inv-loop μ-loop
 enum-told c = search needs
@@ -37,7 +37,7 @@ new-requires : tie.Need-new-requires Inv-loop μ-loop
 new-requires c κs = search needs
 
 loop-holds : tie.Need-loop-holds Inv-loop μ-loop
-loop-holds c = (none-counted (c .before .before .before .before .before .args .s .now) (c .new .ensures), so (c .before .before .before .check-source .ensures) (c .before .enum-told .given .1))
+loop-holds c = (none-counted (c .before .before .before .before .before .args .s .now) (c .new .ensures), so (c .before .before .before .check-source .ensures .0) (c .before .enum-told .given .1))
 
 step-requires : tie.Need-step-requires Inv-loop μ-loop
 step-requires c κs = search needs
@@ -52,16 +52,16 @@ last-answer-requires : tie.Need-last-answer-requires Inv-loop μ-loop
 last-answer-requires c κs = search needs
 
 returns-2 : tie.Need-returns-2 Inv-loop μ-loop
-returns-2 c = all-counted (c .before .before .before .before .before .before .before .before .before .before .args .s .now) (c .before .before .before .before .loop .inv .0) (c .before .before .before .step .ensures) _ (c .before .enum-told2 .given .1) (c .before .before .before .before .loop .inv .1) (c .last-answer .ensures)
+returns-2 c = all-counted (c .before .before .before .before .before .before .before .before .before .before .args .s .now) (c .before .before .before .before .loop .inv .0) (c .before .before .before .step .ensures .0) _ (c .before .enum-told2 .given .1) (c .before .before .before .before .loop .inv .1) (c .last-answer .ensures)
 
 add-count : tie.Need-add-count Inv-loop μ-loop
-add-count c = omega (arith, c .before .before .before .before .loop .inv .0 .inside, c .before .before .before .before .loop .inv .0 .fewer, one-counted (c .before .before .before .before .before .before .before .before .before .before .args .s .now) (c .before .before .before .before .loop .inv .0) (c .before .before .before .step .ensures) (c .before .step2 .given .1) .1, one-counted (c .before .before .before .before .before .before .before .before .before .before .args .s .now) (c .before .before .before .before .loop .inv .0) (c .before .before .before .step .ensures) (c .before .step2 .given .1) .0 .inside)
+add-count c = omega (arith, c .before .before .before .before .loop .inv .0 .inside, c .before .before .before .before .loop .inv .0 .fewer, one-counted (c .before .before .before .before .before .before .before .before .before .before .args .s .now) (c .before .before .before .before .loop .inv .0) (c .before .before .before .step .ensures .0) (c .before .step2 .given .1) .1, one-counted (c .before .before .before .before .before .before .before .before .before .before .args .s .now) (c .before .before .before .before .loop .inv .0) (c .before .before .before .step .ensures .0) (c .before .step2 .given .1) .0 .inside)
 
 loop-less : tie.Need-loop-less Inv-loop μ-loop
-loop-less c = omega (arith, one-counted (c .before .before .before .before .before .before .before .before .before .before .args .s .now) (c .before .before .before .before .loop .inv .0) (c .before .before .before .step .ensures) (c .before .step2 .given .1) .1, one-counted (c .before .before .before .before .before .before .before .before .before .before .args .s .now) (c .before .before .before .before .loop .inv .0) (c .before .before .before .step .ensures) (c .before .step2 .given .1) .0 .inside)
+loop-less c = omega (arith, one-counted (c .before .before .before .before .before .before .before .before .before .before .args .s .now) (c .before .before .before .before .loop .inv .0) (c .before .before .before .step .ensures .0) (c .before .step2 .given .1) .1, one-counted (c .before .before .before .before .before .before .before .before .before .before .args .s .now) (c .before .before .before .before .loop .inv .0) (c .before .before .before .step .ensures .0) (c .before .step2 .given .1) .0 .inside)
 
 loop-again : tie.Need-loop-again Inv-loop μ-loop
-loop-again c = (one-counted (c .before .before .before .before .before .before .before .before .before .before .args .s .now) (c .before .before .before .before .loop .inv .0) (c .before .before .before .step .ensures) (c .before .step2 .given .1) .0, c .before .before .before .before .loop .inv .1)
+loop-again c = (one-counted (c .before .before .before .before .before .before .before .before .before .before .args .s .now) (c .before .before .before .before .loop .inv .0) (c .before .before .before .step .ensures .0) (c .before .step2 .given .1) .0, c .before .before .before .before .loop .inv .1)
 
 pub count-tokens-spec : {M : Type 1} → statement M
 count-tokens-spec =

@@ -2,7 +2,7 @@ use mathlib.Core.Path.{ap, _∙_}
 use native.Mathlib.Omega.{arith}
 use Rattle.tokens.proofs.Fits.{so, fails}
 use Rattle.tokens.proofs.Names.{name-inside, name-fits}
-use Rattle.tokens.proofs.Texts.{part-slice}
+use Rattle.chars.proofs.Texts.{part-slice}
 use Rattle.tokens.specs.Rules.{isNameStart, nameAt}
 use Rattle.tokens.specs.Words.{nameWord}
 use borrow.Author.Needs.{needs}

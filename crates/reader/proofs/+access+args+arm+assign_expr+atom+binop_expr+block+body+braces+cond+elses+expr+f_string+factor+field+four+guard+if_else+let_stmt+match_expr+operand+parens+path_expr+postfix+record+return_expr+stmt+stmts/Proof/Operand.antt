@@ -64,7 +64,7 @@ module _ (t : ℕ) where
   operand-signed-requires c κs = search needs
 
   pub operand-operand-requires : operand-lts.Need-operand-requires told (operand-at t) operand.Post
-  operand-operand-requires c κs = elim (c .before .before .if1 .came) [ inl x ↦ let y = operand-goes _ (c .before .before .before .before .before .before .before .args .limits) (c .before .before .before .before .before .before .before .args .records) _ (c .before .before .before .before .before .before .before .args .table .now) (c .before .before .before .before .before .before .before .pre .1) (sign-of (c .before .before .before .before .before .before .before .args .records) (wordOf (c .before .before .before .before .before .before .before .args .at)) (true-so (c .before .before .before .is-sign .ensures ∙ ap (λ w. one-of w signWords) (c .before .before .before .before .word .ensures)) (x .0 .taken))) (ap (Done (tokenNode (c .before .before .before .before .before .before .before .args .at))) (stepped-here _ (c .before .before .before .before .before .before .before .args .at) (x .2 .given .1) (x .6 .ensures) (x .8)) ∙ under-on _ (c .before .before .before .before .before .before .before .args .at) _ (x .5 .left) (x .2 .given .1)) refl in (omega (arith, c .before .before .before .before .before .before .before .pre .0, goes-on y (omega arith)), y .stands) | inr x ↦ absurd ((false-so (c .before .before .before .is-sign .ensures ∙ ap (λ w. one-of w signWords) (c .before .before .before .before .word .ensures)) (x .0 .left)) (true-so (c .before .before .before .is-sign .ensures ∙ ap (λ w. one-of w signWords) (c .before .before .before .before .word .ensures)) (c .before .if3 .taken))) ]
+  operand-operand-requires c κs = elim (c .before .before .if1 .came) [ inl x ↦ let y = operand-goes _ (c .before .before .before .before .before .before .before .args .limits) (c .before .before .before .before .before .before .before .args .records) _ (c .before .before .before .before .before .before .before .args .table .now) (c .before .before .before .before .before .before .before .pre .1) (sign-of (c .before .before .before .before .before .before .before .args .records) (wordOf (c .before .before .before .before .before .before .before .args .at)) (true-so (c .before .before .before .is-sign .ensures ∙ ap (λ w. one-of w signWords) (c .before .before .before .before .word .ensures)) (x .0 .taken))) (ap (Done (tokenNode (c .before .before .before .before .before .before .before .args .at))) (stepped-here _ (c .before .before .before .before .before .before .before .args .at) (x .2 .given .1) (x .6 .ensures .0) (x .8)) ∙ under-on _ (c .before .before .before .before .before .before .before .args .at) _ (x .5 .left) (x .2 .given .1)) refl in (omega (arith, c .before .before .before .before .before .before .before .pre .0, goes-on y (omega arith)), y .stands) | inr x ↦ absurd ((false-so (c .before .before .before .is-sign .ensures ∙ ap (λ w. one-of w signWords) (c .before .before .before .before .word .ensures)) (x .0 .left)) (true-so (c .before .before .before .is-sign .ensures ∙ ap (λ w. one-of w signWords) (c .before .before .before .before .word .ensures)) (c .before .if3 .taken))) ]
 
   pub operand-access-requires : operand-lts.Need-access-requires told (operand-at t) operand.Post
   operand-access-requires c κs = elim (c .before .before .if1 .came) [ inl x ↦ absurd ((false-so (c .before .before .before .is-sign .ensures ∙ ap (λ w. one-of w signWords) (c .before .before .before .before .word .ensures)) (c .before .if3 .left)) (true-so (c .before .before .before .is-sign .ensures ∙ ap (λ w. one-of w signWords) (c .before .before .before .before .word .ensures)) (x .0 .taken))) | inr x ↦ (omega (arith, c .before .before .before .before .before .before .before .pre .0, ap (λ (z : Here). nextOf z) (x .1)), (subst (Stands _) (sym (x .1)) (c .before .before .before .before .before .before .before .pre .1), subst (λ (z : Here). (wordOf z ≢ 52) × (wordOf z ≢ 53)) (sym (x .1)) (no-sign (wordOf (c .before .before .before .before .before .before .before .args .at)) (false-so (c .before .before .before .is-sign .ensures ∙ ap (λ w. one-of w signWords) (c .before .before .before .before .word .ensures)) (c .before .if3 .left))))) ]
@@ -82,7 +82,7 @@ module _ (t : ℕ) where
   operand-enum-told-2 c = search needs
 
   pub operand-returns-4 : operand-lts.Need-returns-4 told (operand-at t) operand.Post
-  operand-returns-4 c = elim (c .before .before .before .if3 .came) [ inl y ↦ elim (c .before .before .before .before .if1 .came) [ inl x ↦ negate-fails _ (c .before .before .before .before .before .before .before .before .before .args .limits) (c .before .before .before .before .before .before .before .before .before .args .records) _ (c .before .before .before .before .before .before .before .before .before .args .table .now) (c .before .before .before .before .before .before .before .before .before .pre .1) (sign-of (c .before .before .before .before .before .before .before .before .before .args .records) (wordOf (c .before .before .before .before .before .before .before .before .before .args .at)) (true-so (c .before .before .before .before .before .is-sign .ensures ∙ ap (λ w. one-of w signWords) (c .before .before .before .before .before .before .word .ensures)) (x .0 .taken))) (ap (Done (tokenNode (c .before .before .before .before .before .before .before .before .before .args .at))) (stepped-here _ (c .before .before .before .before .before .before .before .before .before .args .at) (x .2 .given .1) (x .6 .ensures) (x .8)) ∙ under-on _ (c .before .before .before .before .before .before .before .before .before .args .at) _ (x .5 .left) (x .2 .given .1)) refl (x .9 ∙ x .7 .ensures) (read-as refl refl (y .6) (y .5) (y .2 .ensures)) (c .enum-told2 .given .1) | inr x ↦ absurd ((false-so (c .before .before .before .before .before .is-sign .ensures ∙ ap (λ w. one-of w signWords) (c .before .before .before .before .before .before .word .ensures)) (x .0 .left)) (not-false-so (c .before .before .before .before .before .is-sign .ensures ∙ ap (λ w. one-of w signWords) (c .before .before .before .before .before .before .word .ensures)) (c .before .before .if4 .left))) ] | inr y ↦ absurd ((false-so (c .before .before .before .before .before .is-sign .ensures ∙ ap (λ w. one-of w signWords) (c .before .before .before .before .before .before .word .ensures)) (y .0 .left)) (not-false-so (c .before .before .before .before .before .is-sign .ensures ∙ ap (λ w. one-of w signWords) (c .before .before .before .before .before .before .word .ensures)) (c .before .before .if4 .left))) ]
+  operand-returns-4 c = elim (c .before .before .before .if3 .came) [ inl y ↦ elim (c .before .before .before .before .if1 .came) [ inl x ↦ negate-fails _ (c .before .before .before .before .before .before .before .before .before .args .limits) (c .before .before .before .before .before .before .before .before .before .args .records) _ (c .before .before .before .before .before .before .before .before .before .args .table .now) (c .before .before .before .before .before .before .before .before .before .pre .1) (sign-of (c .before .before .before .before .before .before .before .before .before .args .records) (wordOf (c .before .before .before .before .before .before .before .before .before .args .at)) (true-so (c .before .before .before .before .before .is-sign .ensures ∙ ap (λ w. one-of w signWords) (c .before .before .before .before .before .before .word .ensures)) (x .0 .taken))) (ap (Done (tokenNode (c .before .before .before .before .before .before .before .before .before .args .at))) (stepped-here _ (c .before .before .before .before .before .before .before .before .before .args .at) (x .2 .given .1) (x .6 .ensures .0) (x .8)) ∙ under-on _ (c .before .before .before .before .before .before .before .before .before .args .at) _ (x .5 .left) (x .2 .given .1)) refl (x .9 ∙ x .7 .ensures) (read-as refl refl (y .6) (y .5) (y .2 .ensures)) (c .enum-told2 .given .1) | inr x ↦ absurd ((false-so (c .before .before .before .before .before .is-sign .ensures ∙ ap (λ w. one-of w signWords) (c .before .before .before .before .before .before .word .ensures)) (x .0 .left)) (not-false-so (c .before .before .before .before .before .is-sign .ensures ∙ ap (λ w. one-of w signWords) (c .before .before .before .before .before .before .word .ensures)) (c .before .before .if4 .left))) ] | inr y ↦ absurd ((false-so (c .before .before .before .before .before .is-sign .ensures ∙ ap (λ w. one-of w signWords) (c .before .before .before .before .before .before .word .ensures)) (y .0 .left)) (not-false-so (c .before .before .before .before .before .is-sign .ensures ∙ ap (λ w. one-of w signWords) (c .before .before .before .before .before .before .word .ensures)) (c .before .before .if4 .left))) ]
 
   pub operand-same-length-2 : operand-lts.Need-same-length-2 told (operand-at t) operand.Post
   operand-same-length-2 c = kept-either (operand-returns-4 c)
@@ -112,7 +112,7 @@ module _ (t : ℕ) where
   operand-finish-requires c κs = search needs
 
   pub operand-returns-6 : operand-lts.Need-returns-6 told (operand-at t) operand.Post
-  operand-returns-6 c = elim (c .before .before .before .before .before .before .before .before .before .before .before .before .before .if3 .came) [ inl y ↦ elim (c .before .before .before .before .before .before .before .before .before .before .before .before .before .before .if1 .came) [ inl x ↦ negate-ends _ (c .before .before .before .before .before .before .before .before .before .before .before .before .before .before .before .before .before .before .before .args .limits) (c .before .before .before .before .before .before .before .before .before .before .before .before .before .before .before .before .before .before .before .args .records) _ (c .before .before .before .before .before .before .before .before .before .before .before .before .before .before .before .before .before .before .before .args .table .now) (c .before .before .before .before .before .before .before .before .before .before .before .before .before .before .before .before .before .before .before .pre .1) (sign-of (c .before .before .before .before .before .before .before .before .before .before .before .before .before .before .before .before .before .before .before .args .records) (wordOf (c .before .before .before .before .before .before .before .before .before .before .before .before .before .before .before .before .before .before .before .args .at)) (true-so (c .before .before .before .before .before .before .before .before .before .before .before .before .before .before .before .is-sign .ensures ∙ ap (λ w. one-of w signWords) (c .before .before .before .before .before .before .before .before .before .before .before .before .before .before .before .before .word .ensures)) (x .0 .taken))) (ap (Done (tokenNode (c .before .before .before .before .before .before .before .before .before .before .before .before .before .before .before .before .before .before .before .args .at))) (stepped-here _ (c .before .before .before .before .before .before .before .before .before .before .before .before .before .before .before .before .before .before .before .args .at) (x .2 .given .1) (x .6 .ensures) (x .8)) ∙ under-on _ (c .before .before .before .before .before .before .before .before .before .before .before .before .before .before .before .before .before .before .before .args .at) _ (x .5 .left) (x .2 .given .1)) refl (x .9 ∙ x .7 .ensures) (read-as refl refl (y .6) (y .5) (y .2 .ensures)) (c .before .before .before .before .before .before .before .before .before .before .r .given .1) (c .before .before .before .before .sign-kind .ensures ∙ ap signKind (word-taken (c .before .before .before .before .before .before .before .step3 .given .1))) (plain-from (c .before .before .before .plain-row .ensures) (sym (start-taken (c .before .before .before .before .before .before .before .step3 .given .1)))) (c .before .before .finish .ensures .0) (c .before .before .finish .ensures .1) | inr x ↦ absurd ((false-so (c .before .before .before .before .before .before .before .before .before .before .before .before .before .before .before .is-sign .ensures ∙ ap (λ w. one-of w signWords) (c .before .before .before .before .before .before .before .before .before .before .before .before .before .before .before .before .word .ensures)) (x .0 .left)) (not-false-so (c .before .before .before .before .before .before .before .before .before .before .before .before .before .before .before .is-sign .ensures ∙ ap (λ w. one-of w signWords) (c .before .before .before .before .before .before .before .before .before .before .before .before .before .before .before .before .word .ensures)) (c .before .before .before .before .before .before .before .before .before .before .before .before .if4 .left))) ] | inr y ↦ absurd ((false-so (c .before .before .before .before .before .before .before .before .before .before .before .before .before .before .before .is-sign .ensures ∙ ap (λ w. one-of w signWords) (c .before .before .before .before .before .before .before .before .before .before .before .before .before .before .before .before .word .ensures)) (y .0 .left)) (not-false-so (c .before .before .before .before .before .before .before .before .before .before .before .before .before .before .before .is-sign .ensures ∙ ap (λ w. one-of w signWords) (c .before .before .before .before .before .before .before .before .before .before .before .before .before .before .before .before .word .ensures)) (c .before .before .before .before .before .before .before .before .before .before .before .before .if4 .left))) ]
+  operand-returns-6 c = elim (c .before .before .before .before .before .before .before .before .before .before .before .before .before .if3 .came) [ inl y ↦ elim (c .before .before .before .before .before .before .before .before .before .before .before .before .before .before .if1 .came) [ inl x ↦ negate-ends _ (c .before .before .before .before .before .before .before .before .before .before .before .before .before .before .before .before .before .before .before .args .limits) (c .before .before .before .before .before .before .before .before .before .before .before .before .before .before .before .before .before .before .before .args .records) _ (c .before .before .before .before .before .before .before .before .before .before .before .before .before .before .before .before .before .before .before .args .table .now) (c .before .before .before .before .before .before .before .before .before .before .before .before .before .before .before .before .before .before .before .pre .1) (sign-of (c .before .before .before .before .before .before .before .before .before .before .before .before .before .before .before .before .before .before .before .args .records) (wordOf (c .before .before .before .before .before .before .before .before .before .before .before .before .before .before .before .before .before .before .before .args .at)) (true-so (c .before .before .before .before .before .before .before .before .before .before .before .before .before .before .before .is-sign .ensures ∙ ap (λ w. one-of w signWords) (c .before .before .before .before .before .before .before .before .before .before .before .before .before .before .before .before .word .ensures)) (x .0 .taken))) (ap (Done (tokenNode (c .before .before .before .before .before .before .before .before .before .before .before .before .before .before .before .before .before .before .before .args .at))) (stepped-here _ (c .before .before .before .before .before .before .before .before .before .before .before .before .before .before .before .before .before .before .before .args .at) (x .2 .given .1) (x .6 .ensures .0) (x .8)) ∙ under-on _ (c .before .before .before .before .before .before .before .before .before .before .before .before .before .before .before .before .before .before .before .args .at) _ (x .5 .left) (x .2 .given .1)) refl (x .9 ∙ x .7 .ensures) (read-as refl refl (y .6) (y .5) (y .2 .ensures)) (c .before .before .before .before .before .before .before .before .before .before .r .given .1) (c .before .before .before .before .sign-kind .ensures ∙ ap signKind (word-taken (c .before .before .before .before .before .before .before .step3 .given .1))) (plain-from (c .before .before .before .plain-row .ensures) (sym (start-taken (c .before .before .before .before .before .before .before .step3 .given .1)))) (c .before .before .finish .ensures .0) (c .before .before .finish .ensures .1) | inr x ↦ absurd ((false-so (c .before .before .before .before .before .before .before .before .before .before .before .before .before .before .before .is-sign .ensures ∙ ap (λ w. one-of w signWords) (c .before .before .before .before .before .before .before .before .before .before .before .before .before .before .before .before .word .ensures)) (x .0 .left)) (not-false-so (c .before .before .before .before .before .before .before .before .before .before .before .before .before .before .before .is-sign .ensures ∙ ap (λ w. one-of w signWords) (c .before .before .before .before .before .before .before .before .before .before .before .before .before .before .before .before .word .ensures)) (c .before .before .before .before .before .before .before .before .before .before .before .before .if4 .left))) ] | inr y ↦ absurd ((false-so (c .before .before .before .before .before .before .before .before .before .before .before .before .before .before .before .is-sign .ensures ∙ ap (λ w. one-of w signWords) (c .before .before .before .before .before .before .before .before .before .before .before .before .before .before .before .before .word .ensures)) (y .0 .left)) (not-false-so (c .before .before .before .before .before .before .before .before .before .before .before .before .before .before .before .is-sign .ensures ∙ ap (λ w. one-of w signWords) (c .before .before .before .before .before .before .before .before .before .before .before .before .before .before .before .before .word .ensures)) (c .before .before .before .before .before .before .before .before .before .before .before .before .if4 .left))) ]
 
   pub operand-same-length-4 : operand-lts.Need-same-length-4 told (operand-at t) operand.Post
   operand-same-length-4 c = kept-either (operand-returns-6 c)

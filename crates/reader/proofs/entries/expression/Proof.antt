@@ -1,9 +1,9 @@
 use mathlib.Core.Path.{sym, _∙_}
 use mathlib.Core.Bool.{false}
 use Rattle.entry.proofs.Stored.{permits-early, permits-read}
 use borrow.Author.Needs.{needs}
-use Rattle.entry.proofs.expression.Statement.{statement}
-use Rattle.entry.proofs.expression.Tie as tie
+use Rattle.reader.proofs.entries.expression.Statement.{statement}
+use Rattle.reader.proofs.entries.expression.Tie as tie
 
 check-source-requires : tie.Need-check-source-requires
 check-source-requires c κs = search needs
@@ -27,13 +27,13 @@ same-length : tie.Need-same-length
 same-length c = search needs
 
 returns : tie.Need-returns
-returns c = permits-early false _ _ (sym (c .before .before .before .before .before .before .before .check-source .ensures) ∙ c .before .before .before .before .before .why .given .1) (c .before .before .refused .ensures)
+returns c = permits-early false _ _ (sym (c .before .before .before .before .before .before .before .check-source .ensures .0) ∙ c .before .before .before .before .before .why .given .1) (c .before .before .refused .ensures)
 
 same-length-2 : tie.Need-same-length-2
 same-length-2 c = search needs
 
 returns-2 : tie.Need-returns-2
-returns-2 c = permits-read false _ _ (sym (c .before .before .before .before .before .before .before .before .before .before .check-source .ensures) ∙ c .before .before .before .before .before .before .before .before .enum-told .given .1) (c .before .before .before .before .before .before .expression .ensures) (c .before .before .answer .ensures)
+returns-2 c = permits-read false _ _ (sym (c .before .before .before .before .before .before .before .before .before .before .check-source .ensures .0) ∙ c .before .before .before .before .before .before .before .before .enum-told .given .1) (c .before .before .before .before .before .before .expression .ensures) (c .before .before .answer .ensures)
 
 pub expression-spec : {M : Type 1} → statement M
 expression-spec = tie.close (tie.spec check-source-requires enum-known-why refused-requires enum-told expression-requires answer-requires same-length returns same-length-2 returns-2)

@@ -2,10 +2,10 @@ use mathlib.Core.Path.{_≡_, refl, sym, _∙_}
 use Prim.Native.Nat.{_-_, _≤_}
 use native.Mathlib.Omega.{arith}
 use lib.ListN.{length, drop}
 use Rattle.chars.specs.Texts.{same}
-use Rattle.tokens.proofs.Texts.{same-length, same-more, same-stops, same-end}
-use Rattle.tokens.proofs.keywords.same.Statement.{statement}
-use Rattle.tokens.proofs.keywords.same.Tie as tie
+use Rattle.chars.proofs.Texts.{same-length, same-more, same-stops, same-end}
+use Rattle.chars.proofs.same.Statement.{statement}
+use Rattle.chars.proofs.same.Tie as tie
 
 abbrev Inv-loop : tie.InvT-loop
 Inv-loop t u i₀ i = (same (drop i t) (drop i u) ≡ same t u) × (i ≤ length t)
