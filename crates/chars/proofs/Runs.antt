@@ -2,15 +2,15 @@
 use mathlib.Core.Path.{_≡_, refl, sym, ap, _∙_, subst}
 use Prim.Native.Nat.{ℕ, zero, suc, _+_, _-_, _<_, _≤_, zero-le, suc-le-suc}
 use mathlib.Core.List.{List, [], _∷_}
-use mathlib.Core.Bool.{Bool, true, false, true≢false}
+use mathlib.Core.Bool.{Bool, true, false, true≢false, _||_}
 use native.Mathlib.Nat.{add-zero, add-suc, suc-add}
 use native.Mathlib.Numerals.{add-one}
 use native.Mathlib.Decide.{decLt}
 use native.Mathlib.Omega.{arith}
 use lib.ListN.{length, getD, drop, length-drop, drop-of-length-le}
 use lib.Seq.{drop-cons, getD-drop}
-use lib.Dec.{eqb}
-use borrow.Author.Tests.{le-ltb, lt-ltb, eq-eqb, ne-eqb, eqb-true}
+use lib.Dec.{eqb, leb}
+use borrow.Author.Tests.{le-ltb, lt-ltb, leb-false, eq-eqb, ne-eqb, eqb-true}
 use Rattle.chars.specs.declared.Class.{Class}
 use Rattle.chars.specs.declared.Class.the-variants.{Ascii, Blank, Line, Digit, Figure, HexDigit, HexColon, NamePart}
 use Rattle.chars.specs.Chars.{byteAt, isClass}
@@ -156,6 +156,24 @@ module _ (k : Class) (s : List ℕ) (i : ℕ) {b : ℕ} {t : Bool} (at-i : b ≡
 
   pub turn-done : t ≡ false → i ≡ pastRun (isClass k) s i
   turn-done e = sym (past-done (isClass k) (outside k) s i (said e))
+
+-- a turn of a loop over a block, which reads the byte at i, and adds to `any` whether the byte stops the run
+module _ (k : Class) (s : List ℕ) (i : ℕ) (h : i < length s) {from : ℕ} where
+  pub block-more : (any : Bool) {stops : Bool} → (stops ≡ false → isClass k (getD s i 0) ≡ true) → (any ≡ false → pastRun (isClass k) s i ≡ from) → any || stops ≡ false → pastRun (isClass k) s (i + 1) ≡ from
+  block-more true test so-far e = absurd (true≢false e)
+  block-more false test so-far e = past-more (isClass k) (outside k) s i (ap (isClass k) (byte-in s i h) ∙ test e) ∙ so-far refl
+
+pub no-newline : (b : ℕ) → b < 256 → eqb b 10 ≡ false → isClass Line b ≡ true
+unfolding isClass
+no-newline b h e = simp (e, lt-ltb b 256 h)
+
+pub not-high : (b : ℕ) → leb 128 b ≡ false → isClass Ascii b ≡ true
+unfolding isClass
+not-high b e = lt-ltb b 128 (leb-false 128 b e)
+
+-- behind its last byte
+pub block-done : (k : Class) (s : List ℕ) {i n from : ℕ} {any : Bool} → i ≡ n → (any ≡ false → pastRun (isClass k) s i ≡ from) → any ≡ false → pastRun (isClass k) s n ≡ from
+block-done k s e so-far none = ap (pastRun (isClass k) s) (sym e) ∙ so-far none
 
 -- a turn of the loop of `behind_last`, which reads the byte b before the place i
 module _ (c : ℕ) (s : List ℕ) (i : ℕ) where

@@ -103,6 +103,14 @@ fn zero() -> Token
     }
 }
 
+// The later of two places. A token ends behind its start, so that this is its end; but the two are then stored one by one, as the
+// step stored them: read back as one pair they wait until both stores are through.
+fn later(start: usize, end: usize) -> usize
+    ensures { λ r. ⌜ (start < end → r ≡ end) ⌝ }
+{
+    if end < start { start } else { end }
+}
+
 // The token at the cursor; behind the last, a zero token.
 fn read(s: &[u8], room: usize, cursor: Cursor, place: usize) -> Stored
     requires { ⌜ place < room ⌝ }
@@ -118,7 +126,7 @@ fn read(s: &[u8], room: usize, cursor: Cursor, place: usize) -> Stored
     let token = Token {
         code: tokens::code_of(word),
         start,
-        end: after.at,
+        end: later(start, after.at),
     };
     Stored {
         token,

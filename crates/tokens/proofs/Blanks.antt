@@ -2,15 +2,15 @@
 use mathlib.Core.Path.{_≡_, refl, sym, ap, _∙_, subst}
 use Prim.Native.Nat.{ℕ, suc, _+_, _-_, _<_, _≤_}
 use mathlib.Core.List.{List, _∷_}
-use mathlib.Core.Bool.{Bool, true, false, _&&_, cond}
+use mathlib.Core.Bool.{Bool, true, false, _&&_, not, cond}
 use native.Mathlib.Nat.{add-zero, add-suc, suc-add}
 use native.Mathlib.Numerals.{add-one}
 use native.Mathlib.Decide.{decLt}
 use native.Mathlib.Omega.{arith}
 use lib.ListN.{length, drop, drop-of-length-le}
 use lib.Seq.{drop-cons}
-use lib.Dec.{eqb, ltb}
-use borrow.Author.Tests.{lt-ltb, le-ltb}
+use lib.Dec.{eqb, ltb, leb}
+use borrow.Author.Tests.{lt-ltb, le-ltb, lt-leb, ne-eqb, not-true}
 use Rattle.chars.specs.declared.Class.the-variants.{Blank, Line}
 use Rattle.chars.specs.Chars.{byteAt, isBlank, isClass}
 use Rattle.chars.specs.Runs.{pastRun}
@@ -18,6 +18,7 @@ use Rattle.chars.proofs.Runs.{byte-in, byte-drop, within, inside, outside, past
 use Rattle.tokens.specs.Blanks.{skipped, skipAll, pastComment}
 use Rattle.tokens.specs.Rules.{pairAt}
 use Rattle.tokens.proofs.Pairs.{pair-first}
+use Rattle.tokens.proofs.Fits.{not-first, not-second, neither}
 
 -- past what is skipped from a place inside a comment
 skipIn : List ℕ → ℕ → ℕ
@@ -41,6 +42,10 @@ at-least e n = go (ltb e n)
     go : (t : Bool) → e ≤ cond t (e + 1) e
     go true = omega arith
     go false = omega arith
+
+-- a byte before which nothing is skipped
+pub solid : (b : ℕ) → 32 < b → not (eqb b 47) ≡ true → (isBlank b ≡ false) × (eqb b 47 ≡ false)
+solid b k h = (neither (not-second (leb 9 b) (lt-leb b 13 (omega (arith, k)))) (ne-eqb b 32 (λ e. omega (arith, k, e))), not-true (eqb b 47) h)
 
 module _ (s : List ℕ) where
   -- the byte at a place inside, in front of the rest
@@ -88,6 +93,11 @@ module _ (s : List ℕ) where
     where
       stops : i < length s → skipAll s i ≡ i
       stops h = rw (at-front i h, outside-other (byteAt s i) (drop (suc i) s) {t = false} e (rw look-ahead f)) (add-zero i)
+
+  -- where a byte was read and found to be no beginning of what is skipped
+  pub skip-none : (i : ℕ) {x : ℕ} {t : Bool} → x ≡ byteAt s i → (t ≡ true → (isBlank x ≡ false) × (eqb x 47 ≡ false)) → t ≡ true → i ≡ skipAll s i
+  unfolding isClass pairAt
+  skip-none i e h g = skip-stops i (ap isBlank (sym e) ∙ h g .0) (not-first _ (ap (λ b. eqb b 47) (sym e) ∙ h g .1))
 
   -- the blanks from a place on change nothing
   pub skip-blanks : (i : ℕ) → skipAll s (pastRun (isClass Blank) s i) ≡ skipAll s i

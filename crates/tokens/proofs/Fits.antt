@@ -2,7 +2,7 @@
 use mathlib.Core.Path.{_≡_, refl, sym, ap, _∙_}
 use Prim.Native.Nat.{ℕ}
 use mathlib.Core.List.{List}
-use mathlib.Core.Bool.{Bool, true, false, _&&_, not, cond}
+use mathlib.Core.Bool.{Bool, true, false, _&&_, _||_, not, cond}
 use lib.Dec.{eqb}
 use borrow.Author.Tests.{eq-eqb, ne-eqb}
 use Rattle.chars.specs.Chars.{byteAt}
@@ -24,6 +24,9 @@ not-first u h = rw h
 pub not-second : (t : Bool) {u : Bool} → u ≡ false → (t && u) ≡ false
 not-second true h = h
 not-second false h = refl
+
+pub neither : {t u : Bool} → t ≡ false → u ≡ false → (t || u) ≡ false
+neither h g = rw (h, g)
 
 pub fails-second : (t : Bool) {u : Bool} (e w : ℕ) → u ≡ false → No ≡ whenFit (t && u) e w
 unfolding whenFit
@@ -67,6 +70,15 @@ hit at d h g = rw h g
 pub miss : {f : Fit} (at : ℕ) {d x : Step} → f ≡ No → x ≡ d → x ≡ orElse at f d
 unfolding orElse
 miss at h g = rw h g
+
+-- a rule that fits, whatever the later rules say
+pub found : {r f : Fit} (at : ℕ) {e w : ℕ} → r ≡ f → r ≡ To e w → (later d : Step) → orElse at r later ≡ orElse at f d
+unfolding orElse
+found at h g later d = ap (λ x. orElse at x later) g ∙ hit at d (so h g) refl
+
+-- the last rule that is asked
+pub also : {r f : Fit} (at : ℕ) → r ≡ f → (later : Step) → orElse at r later ≡ orElse at f later
+also at h later = ap (λ x. orElse at x later) h
 
 pub first : {A : Type 0} {t : Bool} {a x : A} (b : A) → t ≡ true → x ≡ a → x ≡ cond t a b
 first b h g = rw h g

@@ -4,6 +4,8 @@ mod Blanks
 mod Tables
 mod Names
 mod Rules
+mod Firsts
+mod Quotes
 mod Answers
 pub mod Steps
 pub mod Lists

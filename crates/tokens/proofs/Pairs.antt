@@ -2,7 +2,7 @@
 use mathlib.Core.Path.{_≡_, refl, sym}
 use Prim.Native.Nat.{ℕ, _+_, _<_}
 use mathlib.Core.List.{List}
-use mathlib.Core.Bool.{Bool, true, false, _&&_, true≢false}
+use mathlib.Core.Bool.{Bool, true, false, _&&_, _||_, true≢false}
 use lib.ListN.{length}
 use lib.Dec.{eqb}
 use borrow.Author.Tests.{eqb-true}
@@ -18,6 +18,14 @@ fst false u h = absurd (true≢false (sym h))
 pub snd : (t u : Bool) → (t && u) ≡ true → u ≡ true
 snd true u h = h
 snd false u h = absurd (true≢false (sym h))
+
+pub nor-first : (t u : Bool) → (t || u) ≡ false → t ≡ false
+nor-first true u h = h
+nor-first false u h = refl
+
+pub nor-second : (t u : Bool) → (t || u) ≡ false → u ≡ false
+nor-second true u h = absurd (true≢false h)
+nor-second false u h = h
 
 module _ (s : List ℕ) (at : ℕ) where
   pub pair-on : {x y a : ℕ} (b : ℕ) → x ≡ byteAt s at → x ≡ a → y ≡ byteAt s (at + 1) → eqb y b ≡ pairAt s at a b

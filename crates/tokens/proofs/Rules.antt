@@ -2,7 +2,7 @@
 use mathlib.Core.Path.{_≡_, refl, sym, ap, ap₂, _∙_}
 use Prim.Native.Nat.{ℕ, _+_, _-_, _<_, _≤_}
 use mathlib.Core.List.{List, []}
-use mathlib.Core.Bool.{Bool, true, false, _&&_, _||_, not, cond}
+use mathlib.Core.Bool.{Bool, true, false, cond}
 use native.Mathlib.Decide.{decLt}
 use native.Mathlib.Omega.{arith}
 use lib.ListN.{length, getD}
@@ -12,14 +12,14 @@ use Rattle.chars.specs.declared.Class.the-variants.{Line, Digit, Figure, HexDig
 use Rattle.chars.specs.Chars.{byteAt, isClass, isDigit}
 use Rattle.chars.specs.Texts.{same}
 use Rattle.chars.specs.Runs.{pastSpan, pastRun, behindLast}
-use Rattle.chars.proofs.Runs.{byte-in, byte-out, inside, within, span-more, span-done}
+use Rattle.chars.proofs.Runs.{byte-in, byte-out, inside}
 use Rattle.tokens.specs.declared.Fit.{Fit}
 use Rattle.tokens.specs.declared.Fit.the-variants.{To, No}
 use Rattle.tokens.specs.Words.{twoSign, twoSigns, oneSign, oneSigns, wordIn, codeOf}
 use Rattle.tokens.specs.Blanks.{pastComment}
 use Rattle.tokens.specs.Rules.{colonsAt, fractionAt, dottedAt, threeAt, decimalGroup, orTo, ipv6At, periodAt, numberAt, twoAt, oneAt, goesOn, escapes, quoteAt}
 use Rattle.tokens.proofs.Pairs.{fst}
-use Rattle.tokens.proofs.Fits.{so, both, not-first, not-second, fails-second, byte-is, byte-isn't, fits, fails, no-sign, goes-on, ends, first, second}
+use Rattle.tokens.proofs.Fits.{so, both, not-first, fails-second, byte-is, byte-isn't, fits, fails, no-sign, goes-on, ends, first, second}
 use Rattle.tokens.proofs.Tables.{no-first}
 
 one-none : oneSign 256 ≡ 0
@@ -172,23 +172,6 @@ two-read s at h e = e ∙ sym (ap₂ twoSign (byte-in s at (omega (arith, h))) (
 
 pub one-read : (s : List ℕ) (at : ℕ) {w : ℕ} → at < length s → w ≡ oneSign (getD s at 0) → w ≡ oneSign (byteAt s at)
 one-read s at h e = e ∙ sym (ap oneSign (byte-in s at h))
-
--- the scan for a closing quote
-quote-outside : (q : ℕ) (c : Bool) → goesOn q c 256 ≡ false
-quote-outside q c = not-second (c || not (eqb 256 q)) refl
-
-module _ (q : ℕ) (s : List ℕ) (i : ℕ) (c : Bool) {b : ℕ} {t : Bool} (read : b ≡ byteAt s i) (test : t ≡ goesOn q c b) where
-  said : {u : Bool} → t ≡ u → goesOn q c (byteAt s i) ≡ u
-  said e = ap (goesOn q c) (sym read) ∙ sym test ∙ e
-
-  pub quote-in : t ≡ true → i < length s
-  quote-in e = within (goesOn q c) (quote-outside q c) s i (said e)
-
-  pub quote-more : t ≡ true → {b′ : ℕ} → b′ ≡ byteAt s i → pastSpan (goesOn q) escapes (not c && eqb b′ 92) s (i + 1) ≡ pastSpan (goesOn q) escapes c s i
-  quote-more e f = rw f (span-more (goesOn q) escapes c (quote-outside q c) s i (said e))
-
-  pub quote-done : t ≡ false → i ≡ pastSpan (goesOn q) escapes c s i
-  quote-done e = sym (span-done (goesOn q) escapes c (quote-outside q c) s i (said e))
 
 -- the code of a word by the bounds of its rule
 module _ (w : ℕ) where

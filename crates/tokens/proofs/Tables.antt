@@ -9,7 +9,7 @@ use borrow.Author.Tests.{ne-eqb, eqb-true, eqb-false, not-true}
 use Rattle.chars.specs.Texts.{same}
 use Rattle.tokens.specs.Words.{Entry, Line, wordIn, twoSigns, oneSigns, twoSign, oneSign, page, wordsOf, keywordOf, under, keywordUnder}
 use Rattle.tokens.proofs.Fits.{not-first, not-second}
-use Rattle.tokens.proofs.Pairs.{fst, snd}
+use Rattle.tokens.proofs.Pairs.{fst, snd, nor-first, nor-second}
 use Rattle.chars.proofs.Texts.{same-length}
 
 -- every entry of a table passes a test
@@ -86,7 +86,7 @@ abbrev pub Rest : List ℕ → ℕ → Type 0
 Rest [] b = Unit {0}
 Rest (k ∷ ks) b = Rest ks b × (b ≡ k → ⊥)
 
-abbrev has : List ℕ → ℕ → Bool
+abbrev pub has : List ℕ → ℕ → Bool
 has [] k = false
 has (x ∷ xs) k = eqb k x || has xs k
 
@@ -100,6 +100,11 @@ not-key rs b k r t = ne-eqb b k (go rs r t)
         cases : (u : Bool) → eqb k x ≡ u → (u || has rs k) ≡ true → (has rs k ≡ true → b ≡ k → ⊥) → ⊥
         cases true q t f = r .1 (e ∙ eqb-true k x q)
         cases false q t f = f t e
+
+-- a number that the keys' test doesn't hold for is none of them
+pub rest-of : (rs : List ℕ) (b : ℕ) → has rs b ≡ false → Rest rs b
+rest-of [] b h = tt
+rest-of (x ∷ xs) b h = (rest-of xs b (nor-second (eqb b x) _ h), eqb-false b x (nor-first (eqb b x) _ h))
 
 -- the arms of the `match` on a length, and no line of the page is left out
 abbrev lengths : List ℕ
@@ -135,12 +140,20 @@ unfolding same
 in-apart rs b l [] r h = refl
 in-apart rs b l (y ∷ u) r h = not-first (same l u) (not-key rs b y r h)
 
-abbrev oneRest : List ℕ
+abbrev pub oneRest : List ℕ
 oneRest = 62 ∷ 60 ∷ 37 ∷ 47 ∷ 42 ∷ 43 ∷ 45 ∷ 33 ∷ 63 ∷ 61 ∷ 46 ∷ 44 ∷ 59 ∷ 58 ∷ 93 ∷ 91 ∷ 41 ∷ 40 ∷ 125 ∷ 123 ∷ []
 
 pub no-one : (b : ℕ) → Rest oneRest b → 0 ≡ oneSign b
 unfolding oneSign oneSigns
 no-one b r = sym (none-is (λ x. first-in oneRest (x .text)) (b ∷ []) 0 (λ x h. in-apart oneRest b [] (x .text) r h) oneSigns refl)
+
+-- the first bytes of two signs
+abbrev pub twoFirsts : List ℕ
+twoFirsts = 61 ∷ 33 ∷ 60 ∷ 62 ∷ 38 ∷ 124 ∷ 45 ∷ 43 ∷ 42 ∷ 47 ∷ 37 ∷ []
+
+pub no-two : (a b : ℕ) → Rest twoFirsts a → 0 ≡ twoSign a b
+unfolding twoSign twoSigns
+no-two a b r = sym (none-is (λ x. first-in twoFirsts (x .text)) (a ∷ b ∷ []) 0 (λ x h. in-apart twoFirsts a (b ∷ []) (x .text) r h) twoSigns refl)
 
 -- the same of the second byte, and of the first where the second is known
 abbrev second-in : List ℕ → List ℕ → Bool

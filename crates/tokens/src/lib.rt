@@ -1,12 +1,15 @@
 // Document 01's lexer: from bytes to tokens. It follows lexer.rs, function by function.
 ghost use mathlib.Core.Path.{_≡_};
-ghost use mathlib.Core.Bool.{false};
-ghost use Prim.Native.Nat.{_<_};
+ghost use mathlib.Core.Bool.{true, false, cond};
+ghost use Prim.Native.Nat.{_+_, _≤_, _<_};
 ghost use lib.ListN.{length};
+ghost use lib.Dec.{eqb};
+ghost use Rattle.chars.specs.Chars.{isBlank, byteAt};
 ghost use Rattle.chars.specs.Runs.{pastSpan};
+ghost use Rattle.tokens.specs.declared.Step.{Step};
 ghost use Rattle.tokens.specs.Words.{codeOf, twoSign, oneSign};
 ghost use Rattle.tokens.specs.Blanks.{pastComment, skipAll};
-ghost use Rattle.tokens.specs.Rules.{pairAt, colonsAt, fractionAt, dottedAt, threeAt, decimalGroup, ipv6At, periodAt, ipv4At, twoAt, oneAt, asAt, hexAt, numberAt, goesOn, escapes, quoteAt, isNameStart, nameAt, tokenAt, taken, refused};
+ghost use Rattle.tokens.specs.Rules.{pairAt, colonsAt, fractionAt, dottedAt, threeAt, decimalGroup, ipv6At, periodAt, ipv4At, twoAt, oneAt, asAt, hexAt, numberAt, goesOn, escapes, quoteAt, isNameStart, nameAt, tokenAt, orElse, taken, refused};
 ghost use Rattle.tokens.specs.Tokens.{stepAt, stepNumbers, bad, wholeOf, unless, refusal, counted, lastOf, answerOf};
 use chars::Answer;
 use chars::Class;
@@ -15,6 +18,9 @@ use chars::refusal;
 
 mod keywords;
 pub mod word;
+
+// How many bytes of a text are tested at once.
+const TEXT_BLOCK: usize = 16;
 
 // A place in a source. A step hands back the next.
 pub struct Cursor {
@@ -68,13 +74,26 @@ fn pair_at(s: &[u8], at: usize, a: u16, b: u16) -> bool
 fn past_comment(s: &[u8], at: usize) -> usize
     ensures { λ r. ⌜ r ≡ pastComment (now (s .entry)) at ⌝ }
 {
-    let end = chars::past(s, at, Class::Line);
+    let end = chars::past_line(s, at);
     if end < s.len() { end + 1 } else { end }
+}
+
+// Neither blank nor `/`: nothing is skipped here, as before most tokens.
+fn is_solid(b: u16) -> bool
+    ensures { λ r. ⌜ (r ≡ true → (isBlank b ≡ false) × (eqb b 47 ≡ false)) ⌝ }
+{
+    if b <= 32 {
+        return false;
+    }
+    b != 47
 }
 
 fn skip_whitespace(s: &[u8], at: usize) -> usize
     ensures { λ r. ⌜ r ≡ skipAll (now (s .entry)) at ⌝ }
 {
+    if is_solid(chars::byte_at(s, at)) {
+        return at;
+    }
     let mut i = chars::past(s, at, Class::Blank);
     while pair_at(s, i, 47, 47) {
         i = chars::past(s, past_comment(s, i), Class::Blank);
@@ -330,15 +349,66 @@ fn goes_on(quote: u16, escaped: bool, b: u16) -> bool
     (escaped | (b != quote)) & (b < 256)
 }
 
+// Whether the quote or a backslash stands in the block at a place.
+fn has_stop(s: &[u8], at: usize, quote: u8) -> bool
+    requires { ⌜ at + 16 ≤ length (now s) ⌝ }
+    ensures { λ r. ⌜ (r ≡ false → pastSpan (goesOn quote) escapes false (now (s .entry)) (at + 16) ≡ pastSpan (goesOn quote) escapes false (now (s .entry)) at) ⌝ }
+{
+    let mut any = false;
+    for i in at..at + TEXT_BLOCK {
+        any = any | (s[i] == quote) | (s[i] == b'\\');
+    }
+    any
+}
+
+// From a place on past the blocks that a text goes on through without a backslash.
+fn text_blocks(s: &[u8], at: usize, quote: u8) -> usize
+    ensures { λ r. ⌜ pastSpan (goesOn quote) escapes false (now (s .entry)) r ≡ pastSpan (goesOn quote) escapes false (now (s .entry)) at ⌝ }
+{
+    if s.len() < at {
+        return at;
+    }
+    let mut i = at;
+    while i + TEXT_BLOCK <= s.len() {
+        if has_stop(s, i, quote) {
+            return i;
+        }
+        i += TEXT_BLOCK;
+    }
+    i
+}
+
+// The place of the first backslash from `at` on, or where the text ends before it.
+fn plain_text(s: &[u8], at: usize, quote: u16) -> usize
+    ensures { λ r. ⌜ (at ≤ r) × (pastSpan (goesOn quote) escapes false (now (s .entry)) r ≡ pastSpan (goesOn quote) escapes false (now (s .entry)) at) ⌝ }
+    ensures { λ r. ⌜ (goesOn quote false (byteAt (now (s .entry)) r) ≡ true → byteAt (now (s .entry)) r ≡ 92) ⌝ }
+{
+    let mut i = at;
+    while goes_on(quote, false, chars::byte_at(s, i)) & (chars::byte_at(s, i) != 92) {
+        i += 1;
+    }
+    i
+}
+
+// Past a backslash and the byte that it escapes.
+fn past_escape(s: &[u8], at: usize, quote: u16) -> usize
+    requires { ⌜ (goesOn quote false (byteAt (now s) at) ≡ true) × (byteAt (now s) at ≡ 92) ⌝ }
+    ensures { λ r. ⌜ (at < r) × (pastSpan (goesOn quote) escapes false (now (s .entry)) r ≡ pastSpan (goesOn quote) escapes false (now (s .entry)) at) ⌝ }
+{
+    if goes_on(quote, true, chars::byte_at(s, at + 1)) {
+        at + 2
+    } else {
+        at + 1
+    }
+}
+
 // The place of the quote that closes what starts at `at`, or the end.
 fn closing(s: &[u8], at: usize, quote: u16) -> usize
     ensures { λ r. ⌜ r ≡ pastSpan (goesOn quote) escapes false (now (s .entry)) at ⌝ }
 {
-    let mut i = at;
-    let mut escaped = false;
-    while goes_on(quote, escaped, chars::byte_at(s, i)) {
-        escaped = !escaped & (chars::byte_at(s, i) == 92);
-        i += 1;
+    let mut i = plain_text(s, at, quote);
+    while goes_on(quote, false, chars::byte_at(s, i)) {
+        i = plain_text(s, past_escape(s, i, quote), quote);
     }
     i
 }
@@ -349,7 +419,7 @@ fn quoted(s: &[u8], at: usize, quote: u16, word: u64) -> Fit
     ensures { λ r. ⌜ r ≡ quoteAt quote word (now (s .entry)) at ⌝ }
 {
     if chars::byte_at(s, at) == quote {
-        let close = closing(s, at + 1, quote);
+        let close = closing(s, text_blocks(s, at + 1, quote as u8), quote);
         if close < s.len() {
             if close + 1 < s.len() {
                 return Fit::To(close + 1, word);
@@ -369,7 +439,7 @@ fn keyword_or_ident(s: &[u8], at: usize) -> Fit
     ensures { λ r. ⌜ r ≡ nameAt (now (s .entry)) at ⌝ }
 {
     if is_name_start(chars::byte_at(s, at)) {
-        let end = chars::past(s, at, Class::NamePart);
+        let end = chars::past_name(s, at + 1);
         Fit::To(end, keywords::name_word(&s[at..end]))
     } else {
         Fit::No
@@ -407,45 +477,110 @@ fn refuse(number: u64, start: usize, end: usize) -> Step
     Step::Refused(Refusal { number, start, end })
 }
 
+// 1, where the first byte allows it: an address begins with a hex digit or `:`.
+fn address(s: &[u8], at: usize) -> Fit
+    ensures { λ r. ⌜ r ≡ ipv6At (now (s .entry)) at ⌝ }
+{
+    if chars::is_class(Class::HexColon, chars::byte_at(s, at)) {
+        return ipv6(s, at);
+    }
+    Fit::No
+}
+
+// 2, 6, 7 and 8, which begin with a digit.
+fn figures(s: &[u8], at: usize) -> Fit
+    ensures { λ r. ⌜ ((later : Step) → orElse at r later ≡ orElse at (ipv4At (now (s .entry)) at) (orElse at (hexAt (now (s .entry)) at) (orElse at (numberAt (now (s .entry)) at) later))) ⌝ }
+{
+    let fit = ipv4(s, at);
+    if let Fit::To(_, _) = fit {
+        return fit;
+    }
+    let fit = hex_number(s, at);
+    if let Fit::To(_, _) = fit {
+        return fit;
+    }
+    number(s, at)
+}
+
+// 3 and 4, the signs.
+fn signs(s: &[u8], at: usize) -> Fit
+    ensures { λ r. ⌜ ((later : Step) → orElse at r later ≡ orElse at (twoAt (now (s .entry)) at) (orElse at (oneAt (now (s .entry)) at) later)) ⌝ }
+{
+    let fit = two_char_punctuation(s, at);
+    if let Fit::To(_, _) = fit {
+        return fit;
+    }
+    one_char_punctuation(s, at)
+}
+
+// 5 and 11 to 13, which begin with a letter or `_`; between them `f"`, which is no token.
+fn letters(s: &[u8], at: usize) -> Fit
+    ensures { λ r. ⌜ orElse at r (cond (pairAt (now (s .entry)) at 102 34) (refused 5 at (at + 2)) (refused 4 at (at + 1))) ≡ orElse at (asAt (now (s .entry)) at) (cond (pairAt (now (s .entry)) at 102 34) (refused 5 at (at + 2)) (orElse at (nameAt (now (s .entry)) at) (refused 4 at (at + 1)))) ⌝ }
+{
+    let fit = as_number(s, at);
+    if let Fit::To(_, _) = fit {
+        return fit;
+    }
+    if pair_at(s, at, 102, 34) {
+        return Fit::No;
+    }
+    keyword_or_ident(s, at)
+}
+
+// 9 and 10, by the quote.
+fn text(s: &[u8], at: usize, quote: u16) -> Fit
+    requires { ⌜ quote < 256 ⌝ }
+    ensures { λ r. ⌜ r ≡ quoteAt quote (cond (eqb quote 34) 9 10) (now (s .entry)) at ⌝ }
+{
+    let word = if quote == 34 {
+        word::STRING
+    } else {
+        word::CHAR
+    };
+    quoted(s, at, quote, word)
+}
+
+// The first rule that fits, of those that begin with the byte at a place: each rule is asked in one place, so that it is compiled into it.
+fn fit_at(s: &[u8], at: usize) -> Fit
+    ensures { λ r. ⌜ orElse at r (cond (pairAt (now (s .entry)) at 102 34) (refused 5 at (at + 2)) (refused 4 at (at + 1))) ≡ tokenAt (now (s .entry)) at ⌝ }
+{
+    let fit = address(s, at);
+    if let Fit::To(_, _) = fit {
+        return fit;
+    }
+    let b = chars::byte_at(s, at);
+    if is_name_start(b) {
+        return letters(s, at);
+    }
+    if chars::is_digit(b) {
+        return figures(s, at);
+    }
+    if (b == 34) | (b == 39) {
+        return text(s, at, b);
+    }
+    signs(s, at)
+}
+
+// What is refused where no rule fits: `f"`, or one byte.
+fn no_token(s: &[u8], at: usize) -> Step
+    requires { ⌜ at < length (now s) ⌝ }
+    ensures { λ r. ⌜ r ≡ cond (pairAt (now (s .entry)) at 102 34) (refused 5 at (at + 2)) (refused 4 at (at + 1)) ⌝ }
+{
+    if pair_at(s, at, 102, 34) {
+        return refuse(refusal::F_STRING, at, at + 2);
+    }
+    refuse(refusal::NO_TOKEN, at, at + 1)
+}
+
 // The first rule that fits, at a place inside the source.
 fn next_token(s: &[u8], at: usize) -> Step
     requires { ⌜ at < length (now s) ⌝ }
     ensures { λ r. ⌜ r ≡ tokenAt (now (s .entry)) at ⌝ }
 {
-    if let Fit::To(end, word) = ipv6(s, at) {
+    if let Fit::To(end, word) = fit_at(s, at) {
         return bump(at, end, word);
     }
-    if let Fit::To(end, word) = ipv4(s, at) {
-        return bump(at, end, word);
-    }
-    if let Fit::To(end, word) = two_char_punctuation(s, at) {
-        return bump(at, end, word);
-    }
-    if let Fit::To(end, word) = one_char_punctuation(s, at) {
-        return bump(at, end, word);
-    }
-    if let Fit::To(end, word) = as_number(s, at) {
-        return bump(at, end, word);
-    }
-    if let Fit::To(end, word) = hex_number(s, at) {
-        return bump(at, end, word);
-    }
-    if let Fit::To(end, word) = number(s, at) {
-        return bump(at, end, word);
-    }
-    if pair_at(s, at, 102, 34) {
-        return refuse(refusal::F_STRING, at, at + 2);
-    }
-    if let Fit::To(end, word) = quoted(s, at, 34, word::STRING) {
-        return bump(at, end, word);
-    }
-    if let Fit::To(end, word) = quoted(s, at, 39, word::CHAR) {
-        return bump(at, end, word);
-    }
-    if let Fit::To(end, word) = keyword_or_ident(s, at) {
-        return bump(at, end, word);
-    }
-    refuse(refusal::NO_TOKEN, at, at + 1)
+    no_token(s, at)
 }
 
 impl Cursor {
@@ -481,7 +616,7 @@ pub fn check_source(s: &[u8]) -> Whole
     if MOST_BYTES < s.len() {
         return refuse_source(refusal::TOO_LONG, MOST_BYTES, MOST_BYTES);
     }
-    let high = chars::past(s, 0, Class::Ascii);
+    let high = chars::past_ascii(s, 0);
     if high < s.len() {
         return refuse_source(refusal::HIGH_BYTE, high, high + 1);
     }

@@ -1,4 +1,4 @@
-use mathlib.Core.Path.{refl, ap, ap₂}
+use mathlib.Core.Path.{refl, ap}
 use mathlib.Core.Bool.{_||_}
 use lib.Dec.{eqb}
 use Rattle.chars.proofs.Runs.{as-class}
@@ -48,11 +48,8 @@ is-hex-digit-requires-2 c κs = search needs
 enum-told-8 : tie.Need-enum-told-8
 enum-told-8 c = search needs
 
-is-letter-requires : tie.Need-is-letter-requires
-is-letter-requires c κs = search needs
-
-is-digit-requires-3 : tie.Need-is-digit-requires-3
-is-digit-requires-3 c κs = search needs
+is-name-part-requires : tie.Need-is-name-part-requires
+is-name-part-requires c κs = search needs
 
 returns : tie.Need-returns
 unfolding isClass
@@ -84,7 +81,7 @@ returns-7 c = as-class _ (c .before .enum-told7 .given .1) (ap (λ t. t || eqb (
 
 returns-8 : tie.Need-returns-8
 unfolding isClass
-returns-8 c = as-class _ (c .before .before .enum-told8 .given .1) (ap₂ (λ t u. (t || u) || eqb (c .before .before .before .before .args .b) 95) (c .before .is-letter .ensures) (c .is-digit3 .ensures))
+returns-8 c = as-class _ (c .before .enum-told8 .given .1) (c .is-name-part .ensures)
 
 pub is-class-spec : {M : Type 1} → statement M
 is-class-spec =
@@ -103,8 +100,7 @@ is-class-spec =
     enum-told-7
     is-hex-digit-requires-2
     enum-told-8
-    is-letter-requires
-    is-digit-requires-3
+    is-name-part-requires
     returns
     returns-2
     returns-3

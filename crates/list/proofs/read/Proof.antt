@@ -1,3 +1,5 @@
+use mathlib.Core.Path.{sym, _∙_}
+use Rattle.tokens.proofs.Steps.{taken-good}
 use Rattle.list.specs.States.{readBy}
 use borrow.Author.Needs.{needs}
 use Rattle.list.proofs.read.Statement.{statement}
@@ -25,6 +27,9 @@ returns c = rw (← (c .before .before .before .before .step .ensures .0), c .be
 code-of-requires : tie.Need-code-of-requires
 code-of-requires c κs = search needs
 
+later-requires : tie.Need-later-requires
+later-requires c κs = search needs
+
 add-stand : tie.Need-add-stand
 add-stand c = search needs
 
@@ -33,7 +38,10 @@ stand-requires c κs = search needs
 
 returns-2 : tie.Need-returns-2
 unfolding readBy
-returns-2 c = rw (← (c .before .before .before .before .before .step .ensures .0), c .before .before .before .step2 .given .1, c .before .code-of .ensures, c .stand .ensures)
+returns-2 c =
+    let step = c .before .before .before .before .before .before .step .ensures .0 in
+    let token = c .before .before .before .before .step2 .given .1 in
+    rw (← step, token, c .before .before .code-of .ensures, c .before .later .ensures (taken-good _ _ (sym step ∙ token) .1), c .stand .ensures)
 
 pub read-spec : {M : Type 1} → statement M
 read-spec =
@@ -46,6 +54,7 @@ read-spec =
     end-requires
     returns
     code-of-requires
+    later-requires
     add-stand
     stand-requires
     returns-2)
