@@ -4,7 +4,7 @@
  * not be null or unaligned, also for 0 elements, and nothing is kept of it. No function allocates, fails or asks anything of the bytes.
  * What each says is proved.
  *
- * (a) and (b) call themselves as deep as a source nests: 9 to 16 KiB of stack for filters of a few levels, 974 KiB for one that nests at all limits
+ * (a) and (b) call themselves as deep as a source nests: 9 to 16 KiB of stack for filters of a few levels, 952 KiB for one that nests at all limits
  * at once (docs/ARCHITECTURE.md, "Stack"). A thread with 1 MiB of stack can read what strangers wrote.
  *
  * An answer is four numbers: the number of docs (README.md), where its place starts and ends, and a count: the rows or
@@ -28,9 +28,16 @@ enum lekhyundo_kind {
     LEKHYUNDO_TEXT = 47
 };
 
-/* (a) A source to its tree. A row is six numbers: kind, start, end, children, value, detail; children come before their
- * parent. Accepted: the rows stand first in the table and zeros fill the rest. Refused: zeros throughout. Room is
- * table_length / 6; 98,304 rows serve any source. Number 5 is never given. */
+/* The numbers of a row, and which of them, from 0, is its size. */
+enum lekhyundo_row {
+    LEKHYUNDO_WIDTH = 7,
+    LEKHYUNDO_SIZE = 6
+};
+
+/* (a) A source to its tree. A row is seven numbers: kind, start, end, children, value, detail, size; children come before their
+ * parent. The size is how many rows the whole subtree has, itself included: those of row i are the rows i + 1 - size to i, so that
+ * a walk from the last row back skips a subtree at once. Accepted: the rows stand first in the table and zeros fill the rest.
+ * Refused: zeros throughout. Room is table_length / LEKHYUNDO_WIDTH; 98,304 rows serve any source. Number 5 is never given. */
 void lekhyundo_tree(const uint8_t *source, size_t source_length, uint64_t *table, size_t table_length,
                     uint64_t *answer, size_t answer_length);
 

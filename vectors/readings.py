@@ -4,6 +4,7 @@ and the short ones among recorded cases."""
 import itertools, sys
 
 LONGEST, ROOM, SHORT, KEPT = 65535, 10000, 70, 1500
+WIDTH = 7  # numbers of a row
 DEPTHS = (31, 32, 33, 34)
 PRINTER = b'const A: u8 = 1;'
 
@@ -107,8 +108,8 @@ long = [(b'a', filled(b'', b' ', b'')), (b'a', filled(b'', b' ', b'', LONGEST + 
 
 cases = [(entry, source, ROOM) for entry, source in [(b'a', b''), (b'a', PRINTER), (b'a', b'#!a'), (b'a', b'\xff'), (b'a', b'const A: u8 = f""'), (b'a', open(sys.argv[1], 'rb').read())] + long]
 cases += [(b'b', source, ROOM) for source in pairs + forms + literals + f_strings + limits] + [(b'a', source, ROOM) for source in declarations + declared + trees]
-# A table has six numbers for each row of the room and as many more as the source's length leaves by six: 0 to 5 without room.
-cases += [(entry, b'1' * n, 0) for entry in (b'a', b'b') for n in range(6)]
+# A table has WIDTH numbers for each row of the room and as many more as the source's length leaves by WIDTH: 0 to 6 without room.
+cases += [(entry, b'1' * n, 0) for entry in (b'a', b'b') for n in range(WIDTH)]
 cases += [(b'b', b'1+2', room) for room in range(5)] + [(b'a', PRINTER, room) for room in range(9)] + [(b'b', b'f"a{1}b"' + b' ' * room, room) for room in range(7)]
 for name in sys.argv[2:]:
     recorded, at, kept = open(name, 'rb').read(), 0, 0

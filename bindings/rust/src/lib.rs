@@ -18,8 +18,14 @@ pub const MOST_ROWS: usize = 98_304;
 /// Bytes of stack that are enough for any source. A filter of a few levels takes 9 to 16 KiB; only nesting at all limits takes this.
 pub const MOST_STACK: usize = 1 << 20;
 
-/// Six numbers: kind, start, end, children, value, detail.
-pub type Row = [u64; 6];
+/// The numbers of a row.
+pub const WIDTH: usize = 7;
+
+/// Kind, start, end, children, value, detail, size.
+pub type Row = [u64; WIDTH];
+
+/// Which of a row's numbers is its size: how many rows its whole subtree has, itself included.
+pub const SIZE: usize = 6;
 
 /// Kind of an f-string's row: its children are its parts, a hole's the expression's own row, and it ends before the closing quote.
 pub const F_STRING: u64 = 46;
@@ -91,11 +97,11 @@ impl Default for Reader {
 
 impl Reader {
     pub fn with_room(rows: usize) -> Self {
-        Reader { table: vec![0; rows * 6] }
+        Reader { table: vec![0; rows * WIDTH] }
     }
 
     fn rows(&self, count: usize) -> impl ExactSizeIterator<Item = Row> + '_ {
-        self.table[..count * 6].chunks_exact(6).map(|row| row.try_into().expect("six numbers"))
+        self.table[..count * WIDTH].chunks_exact(WIDTH).map(|row| row.try_into().expect("a row's numbers"))
     }
 
     /// (a) The rows of a source's tree, children before their parent.
@@ -130,6 +136,14 @@ pub fn tokens(source: &[u8]) -> Result<Vec<Token>, Refusal> {
     };
     list.truncate(taken(answer)?);
     Ok(list)
+}
+
+/// The rows of the whole subtree of a row, itself last: a fold skips as many. None where the table has no such row, and where
+/// a size reaches before its start, which no table of a `Reader` has.
+pub fn subtree(rows: &[Row], row: usize) -> &[Row] {
+    let up_to = rows.get(..=row).unwrap_or_default();
+    let size = up_to.last().map_or(0, |row| row[SIZE]) as usize;
+    up_to.len().checked_sub(size).map_or(&[], |first| &up_to[first..])
 }
 
 /// (d) The text of a name row; empty for any other row and for a span that doesn't fit.

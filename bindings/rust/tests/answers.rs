@@ -1,4 +1,4 @@
-use lekhyundo::{F_STRING, FLOAT, Float, Reader, Refusal, TEXT, Token, decode, float, float_of, name, tokens};
+use lekhyundo::{F_STRING, FLOAT, Float, Reader, Refusal, SIZE, TEXT, Token, WIDTH, decode, float, float_of, name, subtree, tokens};
 
 fn refusal(number: u64, start: usize, end: usize) -> Refusal {
     Refusal { number, start, end, needed: 0 }
@@ -10,13 +10,35 @@ fn a_tree_has_the_rows_of_document_01() {
     let rows: Vec<_> = reader.tree(b"const A: u8 = 1;").unwrap().collect();
     assert_eq!(
         rows,
-        [[1, 6, 7, 0, 0, 0], [1, 9, 11, 0, 0, 0], [2, 9, 11, 1, 0, 0], [6, 9, 11, 1, 0, 0], [10, 14, 15, 0, 1, 0], [40, 0, 16, 3, 0, 0], [43, 0, 16, 1, 0, 0]]
+        [[1, 6, 7, 0, 0, 0, 1], [1, 9, 11, 0, 0, 0, 1], [2, 9, 11, 1, 0, 0, 2], [6, 9, 11, 1, 0, 0, 3], [10, 14, 15, 0, 1, 0, 1], [40, 0, 16, 3, 0, 0, 6], [43, 0, 16, 1, 0, 0, 7]]
     );
     assert_eq!(name(b"const A: u8 = 1;", &rows[0]), b"A");
     assert_eq!(name(b"const A: u8 = 1;", &rows[1]), b"u8");
     assert_eq!(name(b"const A: u8 = 1;", &rows[2]), b"");
-    assert_eq!(name(b"const", &[1, 3, 9, 0, 0, 0]), b"");
-    assert_eq!(name(b"const", &[1, 4, 3, 0, 0, 0]), b"");
+    assert_eq!(name(b"const", &[1, 3, 9, 0, 0, 0, 1]), b"");
+    // (d) doesn't look at the size.
+    assert_eq!(name(b"const", &[1, 1, 3, 0, 0, 0, 9]), b"on");
+    assert_eq!(name(b"const", &[1, 4, 3, 0, 0, 0, 1]), b"");
+}
+
+#[test]
+fn a_size_spans_the_rows_of_a_subtree() {
+    let rows: Vec<_> = Reader::default().tree(b"fn f(a: u8) { g(a, 1) } const A: u8 = 1;").unwrap().collect();
+    for (at, row) in rows.iter().enumerate() {
+        let under = subtree(&rows, at);
+        assert_eq!(under.len(), row[SIZE] as usize);
+        assert_eq!(under.last(), Some(row));
+        // The children, from the last back, are what is left of it without itself.
+        let mut end = at;
+        for _ in 0..row[3] {
+            end -= subtree(&rows, end - 1).len();
+        }
+        assert_eq!(end + under.len(), at + 1);
+        assert!(under.iter().all(|inner| row[1] <= inner[1] && inner[2] <= row[2]));
+    }
+    assert_eq!(subtree(&rows, rows.len() - 1), rows);
+    assert_eq!(subtree(&rows, rows.len()), [[0; WIDTH]; 0]);
+    assert_eq!(subtree(&[[1, 0, 1, 0, 0, 0, 2]], 0), [[0; WIDTH]; 0]);
 }
 
 #[test]
@@ -44,7 +66,7 @@ fn refusals_have_their_number_and_place() {
 fn a_value_is_any_number_that_its_suffix_holds() {
     let mut reader = Reader::default();
     let rows: Vec<_> = reader.expression(b"18446744073709551615u64").unwrap().collect();
-    assert_eq!(rows, [[10, 0, 23, 0, u64::MAX, 8]]);
+    assert_eq!(rows, [[10, 0, 23, 0, u64::MAX, 8, 1]]);
     assert_eq!(reader.expression(b"18446744073709551616u64").err(), Some(refusal(7, 0, 23)));
     assert_eq!(reader.expression(b"300u8").err(), Some(refusal(7, 0, 5)));
 }
@@ -53,7 +75,7 @@ fn a_value_is_any_number_that_its_suffix_holds() {
 fn an_address_may_end_in_a_dotted_quad() {
     let mut reader = Reader::default();
     let rows: Vec<_> = reader.expression(b"::ffff:1.2.3.4").unwrap().collect();
-    assert_eq!(rows, [[15, 0, 14, 0, 0, 0xffff_0102_0304]]);
+    assert_eq!(rows, [[15, 0, 14, 0, 0, 0xffff_0102_0304, 1]]);
     assert_eq!(reader.expression(b"::256.0.0.0").err(), Some(refusal(7, 0, 11)));
     assert_eq!(reader.expression(b"::1.2").err(), Some(refusal(6, 4, 5)));
 }
@@ -64,9 +86,9 @@ fn an_f_string_has_its_texts_and_its_holes() {
     let rows: Vec<_> = reader.expression(br#"f"{{peer}} {x} down""#).unwrap().collect();
     assert_eq!(
         rows,
-        [[TEXT, 2, 11, 0, 7, 0], [1, 12, 13, 0, 0, 0], [2, 12, 13, 1, 0, 0], [TEXT, 14, 19, 0, 5, 0], [F_STRING, 0, 19, 3, 0, 0]]
+        [[TEXT, 2, 11, 0, 7, 0, 1], [1, 12, 13, 0, 0, 0, 1], [2, 12, 13, 1, 0, 0, 2], [TEXT, 14, 19, 0, 5, 0, 1], [F_STRING, 0, 19, 3, 0, 0, 5]]
     );
-    assert_eq!(reader.expression(b"f\"\"").unwrap().collect::<Vec<_>>(), [[F_STRING, 0, 2, 0, 0, 0]]);
+    assert_eq!(reader.expression(b"f\"\"").unwrap().collect::<Vec<_>>(), [[F_STRING, 0, 2, 0, 0, 0, 1]]);
     assert_eq!(tokens(b"f\"\""), Err(refusal(5, 0, 2)));
 }
 
@@ -108,7 +130,7 @@ fn a_row_of_a_float_has_its_number() {
     let rows: Vec<_> = reader.tree(source).unwrap().filter(|row| row[0] == FLOAT).collect();
     assert_eq!(float_of(source, &rows[0]), Ok(Float::F32(0.1)));
     assert_eq!(float_of(source, &rows[1]), Err(refusal(14, 42, 64)));
-    assert_eq!(float_of(source, &[1, 6, 11, 0, 0, 0]), Err(refusal(7, 6, 11)));
-    assert_eq!(float_of(source, &[FLOAT, 60, 90, 0, 0, 0]), Err(refusal(7, 60, 90)));
-    assert_eq!(float_of(source, &[FLOAT, 9, 8, 0, 0, 0]), Err(refusal(7, 9, 8)));
+    assert_eq!(float_of(source, &[1, 6, 11, 0, 0, 0, 1]), Err(refusal(7, 6, 11)));
+    assert_eq!(float_of(source, &[FLOAT, 60, 90, 0, 0, 0, 1]), Err(refusal(7, 60, 90)));
+    assert_eq!(float_of(source, &[FLOAT, 9, 8, 0, 0, 0, 1]), Err(refusal(7, 9, 8)));
 }

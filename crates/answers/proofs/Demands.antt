@@ -14,7 +14,8 @@ use Rattle.grammar.specs.Limits.{Counts, kept}
 use Rattle.grammar.specs.Readings.{ReadingBy, reads-end, reads-token, reads-phrase, reads-unless, reads-note, reads-side, reads-text}
 use Rattle.grammar.specs.Language.{roto}
 use Rattle.grammar.specs.Culprit.{any}
-use Rattle.grammar.specs.Rows.{width, flat, nodes}
+use Rattle.rows.specs.Rows.{width}
+use Rattle.grammar.specs.Rows.{flat, nodes}
 use Rattle.grammar.specs.Answers.{accepts, stops, leaves}
 use Rattle.grammar.proofs.Bools.{T→eq, and-r, or-cases}
 use Rattle.grammar.proofs.Core.{unique}

@@ -17,7 +17,8 @@ use Rattle.tokens.specs.Rules.{pairAt}
 use Rattle.tokens.specs.Tokens.{wholeOf, refusal, counted}
 use Rattle.grammar.specs.Grammar.{Parts}
 use Rattle.grammar.specs.Readings.{Text}
-use Rattle.grammar.specs.Rows.{width, flat, rows}
+use Rattle.rows.specs.Rows.{width}
+use Rattle.grammar.specs.Rows.{flat, rows}
 use Rattle.grammar.specs.Language.{roto, goal}
 use Rattle.grammar.specs.Answers.{accepted, accepts, stops, leaves}
 use Rattle.grammar.proofs.Bools.{and-l}

@@ -8,3 +8,4 @@ pub mod Worked
 pub mod Spelled
 pub mod Shebang
 pub mod Demands
+pub mod Sizes

@@ -11,7 +11,8 @@ use Rattle.chars.specs.Chars.{byteAt}
 use Rattle.grammar.specs.Grammar.{over, Parts}
 use Rattle.grammar.specs.Limits.{zeros}
 use Rattle.grammar.specs.Readings.{ReadingBy, Text}
-use Rattle.grammar.specs.Rows.{width, flat, rows, nodes}
+use Rattle.rows.specs.Rows.{width}
+use Rattle.grammar.specs.Rows.{flat, rows, nodes}
 use Rattle.grammar.specs.Language.{roto, goal, start}
 use Rattle.grammar.specs.Culprit.{any}
 use Rattle.answers.specs.Source.{source}

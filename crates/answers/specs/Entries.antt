@@ -10,12 +10,13 @@ use Rattle.tokens.specs.declared.Refusal.{Refusal}
 use Rattle.chars.specs.declared.Answer.{Answer}
 use Rattle.tokens.specs.declared.Whole.the-variants.{Fine, Refused}
 use Rattle.tokens.specs.Tokens.{wholeOf, refusal, counted}
-use Rattle.grammar.specs.Rows.{width, flat}
+use Rattle.rows.specs.Rows.{width}
+use Rattle.grammar.specs.Rows.{flat}
 use Rattle.grammar.specs.Answers.{accepted, refused, Answers}
 use Rattle.grammar.specs.Answers as grammar
 use Rattle.answers.specs.Source.{source}
 
--- "Room is the lent length divided by 6, rounded down."
+-- C-14: "Room becomes the lent length divided by 7", rounded down.
 abbrev pub room : ℕ → ℕ
 room size = size / width
 

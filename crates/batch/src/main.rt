@@ -1,6 +1,8 @@
 // Answers cases from standard input, one after the other: a line `ENTRY LENGTH` or `ENTRY LENGTH ROOM`, then LENGTH bytes.
 ghost use mathlib.Core.Path.{_≡_};
 ghost use lib.ListN.{length};
+ghost use Prim.Native.Nat.{_*_};
+ghost use Rattle.rows.specs.Rows.{width};
 use libc::STDIN_FILENO;
 use libc::STDOUT_FILENO;
 
@@ -9,6 +11,9 @@ const MOST_CASES: usize = 1000000;
 
 // More room than any case asks for.
 const ENOUGH: usize = 1000000;
+
+// More rows than any case asks room for.
+const MOST_ROWS: usize = 10240;
 
 // The next byte of the cases, a newline behind the last.
 fn next_byte() -> u8 {
@@ -61,8 +66,11 @@ fn room_behind(behind: u8) -> usize {
 
 // (a) in a table with so many rows, and with some numbers behind them that are no row.
 fn tree(source: &[u8], room: usize, table: &mut [u64]) {
-    if room < table.len() / 6 {
-        print::answer_tree(source, &mut table[..room * 6 + source.len() % 6]);
+    if room < table.len() / rows::WIDTH {
+        print::answer_tree(
+            source,
+            &mut table[..room * rows::WIDTH + source.len() % rows::WIDTH],
+        );
     } else {
         print::answer_tree(source, table);
     }
@@ -70,8 +78,11 @@ fn tree(source: &[u8], room: usize, table: &mut [u64]) {
 
 // (b), likewise.
 fn expression(source: &[u8], room: usize, table: &mut [u64]) {
-    if room < table.len() / 6 {
-        print::answer_expression(source, &mut table[..room * 6 + source.len() % 6]);
+    if room < table.len() / rows::WIDTH {
+        print::answer_expression(
+            source,
+            &mut table[..room * rows::WIDTH + source.len() % rows::WIDTH],
+        );
     } else {
         print::answer_expression(source, table);
     }
@@ -122,11 +133,11 @@ fn answer_all(buffer: &mut [u8], table: &mut [u64]) {
     }
 }
 
-// Zeros for the rows, with more room than any case asks for; the contract gives only the length, which lending it needs.
-fn case_table() -> [u64; 65536]
-    ensures { λ r. ⌜ 65536 ≡ length r ⌝ }
+// Zeros for the rows; the contract gives only the length, which lending it needs.
+fn case_table() -> [u64; MOST_ROWS * rows::WIDTH]
+    ensures { λ r. ⌜ 10240 * width ≡ length r ⌝ }
 {
-    [0; 65536]
+    [0; MOST_ROWS * rows::WIDTH]
 }
 
 fn main() {

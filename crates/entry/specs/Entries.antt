@@ -7,14 +7,14 @@ use lib.Dec.{eqb, leb}
 use lib.Seq.{slice}
 use Rattle.chars.specs.declared.Answer.{Answer}
 use Rattle.tokens.specs.Tokens.{refusal, counted}
-use Rattle.rows.specs.Rows.{zeroed}
+use Rattle.rows.specs.Rows.{width, zeroed}
 use Rattle.parser.specs.declared.Read.{Read}
 use Rattle.parser.specs.declared.Read.the-variants.{Done, Refused}
 use Rattle.answers.specs.Entries.{room}
 
 -- "zeros fill the rest" behind so many rows, where there is room for them; else zeros throughout
 abbrev pub keptRows : List ℕ → ℕ → List ℕ
-keptRows t n = zeroed t (cond (leb n (room (length t))) (n * 6) 0)
+keptRows t n = zeroed t (cond (leb n (room (length t))) (n * width) 0)
 
 -- the answer to a source of so many bytes that was read so, and what is left in a table of so many numbers
 abbrev pub answered : ℕ → ℕ → Read → Answer

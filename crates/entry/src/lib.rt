@@ -28,8 +28,8 @@ pub fn refused(table: &mut [u64], r: Refusal) -> Answer
 fn counted(table: &mut [u64], size: usize, count: usize) -> Answer
     ensures { λ a. ⌜ (a ≡ countedOf size count (room (length (now (table .entry))))) × (now (table .exit) ≡ keptRows (now (table .entry)) count) ⌝ }
 {
-    if count <= table.len() / 6 {
-        rows::clear(table, count * 6);
+    if count <= table.len() / rows::WIDTH {
+        rows::clear(table, count * rows::WIDTH);
         return Answer {
             number: refusal::NONE,
             start: 0,

@@ -1,12 +1,17 @@
 // Prints the rows of the one expression on standard input, or its refusal.
 ghost use mathlib.Core.Path.{_≡_};
 ghost use lib.ListN.{length};
+ghost use Prim.Native.Nat.{_*_};
+ghost use Rattle.rows.specs.Rows.{width};
 
-// Room for any source: 98,304 rows of six numbers.
-fn rows_table() -> [u64; 589824]
-    ensures { λ r. ⌜ 589824 ≡ length r ⌝ }
+// Rows that are enough for any source.
+const MOST_ROWS: usize = 98304;
+
+// Zeros for their numbers.
+fn rows_table() -> [u64; MOST_ROWS * rows::WIDTH]
+    ensures { λ r. ⌜ 98304 * width ≡ length r ⌝ }
 {
-    [0; 589824]
+    [0; MOST_ROWS * rows::WIDTH]
 }
 
 fn main() {

@@ -5,6 +5,8 @@ pub mod Core
 pub mod Refused
 pub mod Frame
 pub mod Summary
+pub mod Sizes
+pub mod Subtrees
 pub mod Count
 pub mod Barred
 pub mod Viable

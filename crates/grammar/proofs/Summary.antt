@@ -8,7 +8,7 @@ use lib.Dec.{eqb}
 use native.Mathlib.Omega.{arith}
 use Rattle.grammar.specs.Grammar.{Token}
 use Rattle.grammar.specs.Table.{literal-row}
-use Rattle.grammar.specs.Rows.{Row, Item, own, child, start-of, end-of, ends, count, sign-of, detail-for, row-of}
+use Rattle.grammar.specs.Rows.{Row, Item, own, child, start-of, end-of, ends, count, sizes, sign-of, detail-for, row-of}
 
 -- nothing yet; or where the first item begins, where the last ends, how many are rows, and the first word, if any
 pub data Sum : Type 0 where
@@ -42,9 +42,9 @@ sum-child empty r = sum (r .start) (r .end) 1 none
 sum-child (sum a e c w) r = sum a (r .end) (c + 1) w
 
 -- the row that the items give
-abbrev pub sum-row : ℕ → Sum → ℕ → Row
-sum-row k empty part = record { kind = k; start = 0; end = 0; children = 0; value = part; detail = detail-for k 0 }
-sum-row k (sum a e c w) part = record { kind = k; start = a; end = e; children = c; value = part; detail = detail-for k (word-or-0 w) }
+abbrev pub sum-row : ℕ → Sum → ℕ → ℕ → Row
+sum-row k empty part size = record { kind = k; start = 0; end = 0; children = 0; value = part; detail = detail-for k 0; size = size }
+sum-row k (sum a e c w) part size = record { kind = k; start = a; end = e; children = c; value = part; detail = detail-for k (word-or-0 w); size = size }
 
 ends-snoc : (xs : List Item) (x : Item) → ends (xs ++ (x ∷ [])) ≡ end-of x
 ends-snoc [] x = refl
@@ -85,7 +85,7 @@ sum-snoc-child [] r = refl
 sum-snoc-child (y ∷ ys) r = cc (ends-snoc (y ∷ ys) (child r), count-child (y ∷ ys) r, word-child (y ∷ ys) r)
 
 -- a row but a literal's, from the summary
-pub row-sum : (k : ℕ) (xs : List Item) (part : ℕ) → eqb k literal-row ≡ false → row-of k xs part ≡ sum-row k (sum-of xs) part
+pub row-sum : (k : ℕ) (xs : List Item) (part : ℕ) → eqb k literal-row ≡ false → row-of k xs part ≡ sum-row k (sum-of xs) part (suc (sizes xs))
 unfolding row-of
 row-sum k [] part e = rw e refl
 row-sum k (x ∷ xs) part e = rw (e, sign-word (x ∷ xs)) refl

@@ -7,6 +7,7 @@ pub mod Readings
 pub mod Choice
 pub mod Runs
 pub mod Rows
+pub mod Subtrees
 pub mod Refusals
 pub mod Hints
 pub mod Language

@@ -1,5 +1,5 @@
 -- The rows of a reading. "A row is six numbers: kind, start, end, children, value, detail. Children come before their
--- parent, left to right." The kinds have names in rows/specs/Kinds.antt, the table says where each is made; here stands
+-- parent, left to right." C-14: "a seventh number to each row: how many rows its whole subtree has, itself included." The kinds have names in rows/specs/Kinds.antt, the table says where each is made; here stands
 -- what a row holds.
 use mathlib.Core.List.{List, [], _∷_, _++_}
 use mathlib.Core.Bool.{Bool, true, false, cond}
@@ -17,13 +17,11 @@ pub record Row : Type 0 where
   pub children : ℕ
   pub value : ℕ
   pub detail : ℕ
+  pub size : ℕ
 
--- A row's numbers, in order, and how many they are.
-abbrev pub width : ℕ
-width = 6
-
+-- A row's numbers, in order.
 abbrev pub numbers : Row → List ℕ
-numbers r = r .kind ∷ r .start ∷ r .end ∷ r .children ∷ r .value ∷ r .detail ∷ []
+numbers r = r .kind ∷ r .start ∷ r .end ∷ r .children ∷ r .value ∷ r .detail ∷ r .size ∷ []
 
 abbrev pub flat : List Row → List ℕ
 flat [] = []
@@ -63,6 +61,12 @@ children-of [] = []
 children-of (own x ∷ xs) = children-of xs
 children-of (child r ∷ xs) = child r ∷ children-of xs
 
+-- The rows of the children's subtrees.
+abbrev pub sizes : List Item → ℕ
+sizes [] = 0
+sizes (own x ∷ xs) = sizes xs
+sizes (child r ∷ xs) = r .size + sizes xs
+
 -- The first word of its own.
 abbrev pub sign-of : List Item → ℕ
 sign-of [] = 0
@@ -85,16 +89,19 @@ detail-for k sign =
     cond (eqb k kinds.BINARY) binary (cond (eqb k kinds.ASSIGN) assign (cond (eqb k kinds.RETURN) returns (cond (eqb k kinds.FILTER) filters 0)))
 
 -- A literal's row is what its token says: "Rows 10 to 14 hold their value (`true` 1, first octet highest), but a float 0."
-abbrev pub literal-of : List Item → Row
-literal-of [] = record { kind = kinds.NONE; start = 0; end = 0; children = 0; value = 0; detail = 0 }
-literal-of (own x ∷ xs) = record { kind = x .kind; start = x .start; end = x .end; children = 0; value = x .value; detail = x .detail }
-literal-of (child r ∷ xs) = r
+abbrev pub literal-of : List Item → ℕ → ℕ → Row
+literal-of [] c z = record { kind = kinds.NONE; start = 0; end = 0; children = c; value = 0; detail = 0; size = z }
+literal-of (own x ∷ xs) c z = record { kind = x .kind; start = x .start; end = x .end; children = c; value = x .value; detail = x .detail; size = z }
+literal-of (child r ∷ xs) c z = record { kind = r .kind; start = r .start; end = r .end; children = c; value = r .value; detail = r .detail; size = z }
 
--- The row of kind k over what the phrase has; "`(1: ..)`: value 1 if that part is there, else 0".
+-- The row of kind k over what the phrase has; "`(1: ..)`: value 1 if that part is there, else 0". Its size is one, and those of
+-- its children.
 unfoldable pub row-of : ℕ → List Item → ℕ → Row
 row-of k xs part =
-    let l : Row = literal-of xs in
-    let r : Row = record { kind = k; start = starts xs; end = ends xs; children = count xs; value = part; detail = detail-for k (sign-of xs) } in
+    let c : ℕ = count xs in
+    let z : ℕ = suc (sizes xs) in
+    let l : Row = literal-of xs c z in
+    let r : Row = record { kind = k; start = starts xs; end = ends xs; children = c; value = part; detail = detail-for k (sign-of xs); size = z } in
     cond (eqb k literal-row) l r
 
 -- The rows written; what the phrase that is being read has; 1 if the part of which its row's value tells is there.
@@ -122,7 +129,7 @@ abbrev pub is-text : Token → Bool
 is-text x = one-of (x .word) (text-then-hole ∷ last-text ∷ [])
 
 abbrev pub text-row : Token → Row
-text-row x = record { kind = kinds.TEXT; start = x .start; end = x .end; children = 0; value = x .value; detail = 0 }
+text-row x = record { kind = kinds.TEXT; start = x .start; end = x .end; children = 0; value = x .value; detail = 0; size = 1 }
 
 unfoldable pub add-token : Token → Draft → Draft
 add-token x a =
@@ -148,7 +155,7 @@ write (mark k p) a = write p (take-note k a)
 
 -- "Tree spans the source": its row comes last.
 abbrev pub tree-row : ℕ → Draft → Row
-tree-row len a = record { kind = kinds.TREE; start = 0; end = len; children = count (a .items); value = 0; detail = 0 }
+tree-row len a = record { kind = kinds.TREE; start = 0; end = len; children = count (a .items); value = 0; detail = 0; size = suc (sizes (a .items)) }
 
 -- The rows of a tree, or of one expression, of a source of `len` bytes.
 unfoldable pub rows-from : Bool → ℕ → Draft → List Row
@@ -174,7 +181,7 @@ nodes (mark k p) = mark-nodes k + nodes p
 
 -- The row of a phrase: the one that it leaves.
 abbrev pub first-row : List Item → Row
-first-row [] = record { kind = kinds.NONE; start = 0; end = 0; children = 0; value = 0; detail = 0 }
+first-row [] = record { kind = kinds.NONE; start = 0; end = 0; children = 0; value = 0; detail = 0; size = 0 }
 first-row (own x ∷ xs) = first-row xs
 first-row (child r ∷ xs) = r
 

@@ -121,7 +121,7 @@ pub extern "C" fn lekhyundo_literal(s: &[u8], code: u64, start: usize, end: usiz
     }
 }
 
-// (a): a source to its tree, rows of six numbers in the lent table; number, start, end, count.
+// (a): a source to its tree, rows of seven numbers in the lent table; number, start, end, count.
 #[no_mangle]
 pub extern "C" fn lekhyundo_tree(s: &[u8], table: &mut [u64], answer: &mut [u64])
     ensures { λ r. ⌜ Entered true (now (s .entry)) (length (now (table .entry))) (now (table .exit)) (now (answer .entry)) (now (answer .exit)) ⌝ }

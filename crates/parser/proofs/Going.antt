@@ -3,7 +3,7 @@ use mathlib.Core.Path.{_≡_, refl, sym, ap, subst, _∙_}
 use mathlib.Core.List.{List, [], _∷_, _++_}
 use mathlib.Core.Bool.{Bool, true, false, not, _&&_, cond}
 use mathlib.Core.Option.{none, some}
-use Prim.Native.Nat.{ℕ, _+_, _*_, _≤_, _<_}
+use Prim.Native.Nat.{ℕ, _+_, _*_, _≤_, _<_, suc}
 use lib.Dec.{T, eqb}
 use lib.ListN.{length, length-append}
 use native.Mathlib.Omega.{arith}
@@ -16,7 +16,8 @@ use Rattle.grammar.specs.Table.{rest-kinds, literal-row}
 use Rattle.grammar.specs.Choice.{chosen}
 use Rattle.grammar.specs.Readings.{peek}
 use Rattle.grammar.specs.Runs.{view, Run}
-use Rattle.grammar.specs.Rows.{Draft, children-of, row-of, take-note, add-row, blank}
+use Rattle.grammar.specs.Rows.{Draft, children-of, row-of, take-note, add-row, blank, sizes}
+use Rattle.grammar.proofs.Sizes.{Sized, row-size, own-sized, phrase-sized, write-sized}
 use Rattle.grammar.specs.Rows as grammar
 use Rattle.grammar.specs.Refusals.{Why, want, amiss, past, ask-number, said, Stops, stops-none, stops-in}
 use Rattle.grammar.specs.Phrases as phrases
@@ -30,7 +31,7 @@ use Rattle.parser.specs.declared.Here.{Here}
 use Rattle.parser.specs.declared.Node.{Node}
 use Rattle.parser.specs.declared.Read.{Read}
 use Rattle.parser.specs.declared.Read.the-variants.{Done, Refused}
-use Rattle.parser.specs.Places.{wordOf, startOf, endOf, nextOf, passed, unusedAt, refusalAt, later}
+use Rattle.parser.specs.Places.{wordOf, startOf, endOf, nextOf, passed, unusedAt, refusalAt, later, sizeFrom, putOver}
 use Rattle.parser.specs.Going.{language, tokenOf, Stands, asRow, store, Tally, bare, lone, many, Holds, withToken, withNode, countOf, rowOver, Phrase, Going, Whole, Stopped, Either, Answers}
 use Rattle.parser.proofs.Standing.{solid, solid-word, peeks, next-small, is-token, says, lacking, goes-past, more-rows}
 use Rattle.parser.proofs.Tables.{store-append, store-row, store-length}
@@ -51,6 +52,7 @@ begins f c g e = record {
   part = refl;
   rows = omega arith;
   stored = refl;
+  sized = refl;
   began = g .few;
   counted = omega arith;
   spares = omega arith;
@@ -103,6 +105,7 @@ module _ {f : Phrase} {d : Counts} {ks : List Left} {h : Here} {t : List ℕ} {y
         part = g .part;
         rows = r ∙ g .rows;
         stored = g .stored;
+        sized = own-sized (tokenOf (f .text) h) (g .draft) (g .sized);
         began = g .began;
         counted = counted-token y (omega arith);
         spares = omega arith;
@@ -115,20 +118,20 @@ module _ {f : Phrase} {d : Counts} {ks : List Left} {h : Here} {t : List ℕ} {y
 
   -- into the rest of a phrase; out of it; its last rest; a rest apart from what comes behind
   pub into : {ss : List Symbol} {o : Scope} {n : ℕ} (c : List Symbol) → one-of n rest-kinds ≡ true → chosen language n (view (source (f .text)) language (h .place)) ≡ some c → Going f (at d (phrase o n ∷ ss) ∷ ks) h t y v k → Going f (at (inside o d) c ∷ at d ss ∷ ks) h t y v k
-  into c r e g = record { draft = g .draft; opened = within (source (f .text)) language c r e (g .opened); stands = g .stands; holds = g .holds; part = g .part; rows = g .rows; stored = g .stored; began = g .began; counted = g .counted; spares = g .spares }
+  into c r e g = record { draft = g .draft; opened = within (source (f .text)) language c r e (g .opened); stands = g .stands; holds = g .holds; part = g .part; rows = g .rows; stored = g .stored; sized = g .sized; began = g .began; counted = g .counted; spares = g .spares }
 
   pub out : Going f (at d [] ∷ ks) h t y v k → Going f ks h t y v k
-  out g = record { draft = g .draft; opened = pop (source (f .text)) language (g .opened); stands = g .stands; holds = g .holds; part = g .part; rows = g .rows; stored = g .stored; began = g .began; counted = g .counted; spares = g .spares }
+  out g = record { draft = g .draft; opened = pop (source (f .text)) language (g .opened); stands = g .stands; holds = g .holds; part = g .part; rows = g .rows; stored = g .stored; sized = g .sized; began = g .began; counted = g .counted; spares = g .spares }
 
   pub last : {o : Scope} {n : ℕ} {d′ : Counts} → Going f (at d (phrase o n ∷ []) ∷ at d′ [] ∷ ks) h t y v k → Going f (at d (phrase o n ∷ []) ∷ ks) h t y v k
-  last g = record { draft = g .draft; opened = tail (source (f .text)) language (g .opened); stands = g .stands; holds = g .holds; part = g .part; rows = g .rows; stored = g .stored; began = g .began; counted = g .counted; spares = g .spares }
+  last g = record { draft = g .draft; opened = tail (source (f .text)) language (g .opened); stands = g .stands; holds = g .holds; part = g .part; rows = g .rows; stored = g .stored; sized = g .sized; began = g .began; counted = g .counted; spares = g .spares }
 
   pub alone : {ss : List Symbol} {o : Scope} {n : ℕ} → Going f (at d (phrase o n ∷ ss) ∷ ks) h t y v k → Going f (at d (phrase o n ∷ []) ∷ at d ss ∷ ks) h t y v k
-  alone g = record { draft = g .draft; opened = apart (source (f .text)) language (g .opened); stands = g .stands; holds = g .holds; part = g .part; rows = g .rows; stored = g .stored; began = g .began; counted = g .counted; spares = g .spares }
+  alone g = record { draft = g .draft; opened = apart (source (f .text)) language (g .opened); stands = g .stands; holds = g .holds; part = g .part; rows = g .rows; stored = g .stored; sized = g .sized; began = g .began; counted = g .counted; spares = g .spares }
 
   -- none of these words stands next
   pub none-of : {ss : List Symbol} {w : List ℕ} → (T (one-of (wordOf h) w) → ⊥) → Going f (at d (unless w ∷ ss) ∷ ks) h t y v k → Going f (at d ss ∷ ks) h t y v k
-  none-of {w = w} n g = record { draft = g .draft; opened = clear (source (f .text)) language (not-one (peek (source (f .text)) language (h .place)) (peeks (g .stands))) (g .opened); stands = g .stands; holds = g .holds; part = g .part; rows = g .rows; stored = g .stored; began = g .began; counted = g .counted; spares = g .spares }
+  none-of {w = w} n g = record { draft = g .draft; opened = clear (source (f .text)) language (not-one (peek (source (f .text)) language (h .place)) (peeks (g .stands))) (g .opened); stands = g .stands; holds = g .holds; part = g .part; rows = g .rows; stored = g .stored; sized = g .sized; began = g .began; counted = g .counted; spares = g .spares }
     where
       not-one : (x : ℕ) → x ≡ wordOf h → T (not (one-of x w))
       not-one x e = lib.Dec.not-T (one-of x w) (λ q. n (subst (λ (z : ℕ). T (one-of z w)) e q))
@@ -136,18 +139,21 @@ module _ {f : Phrase} {d : Counts} {ks : List Left} {h : Here} {t : List ℕ} {y
   -- "the part is there"
   pub parts : {ss : List Symbol} → Going f (at d (note 0 ∷ ss) ∷ ks) h t y v k → Going f (at d ss ∷ ks) h t y 1 k
   unfolding take-note
-  parts g = record { draft = take-note 0 (g .draft); opened = notes (source (f .text)) language (g .opened); stands = g .stands; holds = g .holds; part = refl; rows = g .rows; stored = g .stored; began = g .began; counted = g .counted; spares = g .spares }
+  parts g = record { draft = take-note 0 (g .draft); opened = notes (source (f .text)) language (g .opened); stands = g .stands; holds = g .holds; part = refl; rows = g .rows; stored = g .stored; sized = g .sized; began = g .began; counted = g .counted; spares = g .spares }
 
 -- a row over what the phrase has
 module _ {f : Phrase} {d : Counts} {ks : List Left} {h : Here} {t : List ℕ} {y : Tally} {v k : ℕ} where
-  pub writes : {ss : List Symbol} {n : ℕ} {r : Row} {h′ : Here} {t′ : List ℕ} → Going f (at d (note n ∷ ss) ∷ ks) h t y v (k + 1) → eqb n 0 ≡ false → eqb n literal-row ≡ false → r ≡ rowOver n y v → h′ ≡ later h → t′ ≡ putRow t (h .rows) r → Going f (at d ss ∷ ks) h′ t′ (lone (r .kind) (r .start) (r .end)) 0 k
+  pub writes : {ss : List Symbol} {n : ℕ} {r : Row} {h′ : Here} {t′ : List ℕ} → Going f (at d (note n ∷ ss) ∷ ks) h t y v (k + 1) → eqb n 0 ≡ false → eqb n literal-row ≡ false → r ≡ rowOver n y v → h′ ≡ later h → t′ ≡ putOver t h r (f .from .rows) → Going f (at d ss ∷ ks) h′ t′ (lone (r .kind) (r .start) (r .end)) 0 k
   unfolding take-note
   writes {ss} {n} {r} {h′} {t′} g z l e b p =
       let s = f .text in
       let a : Draft = g .draft in
       let x : grammar.Row = row-of n (a .items) (a .part) in
-      let i : x ≡ back r = ap (row-of n (a .items)) (g .part) ∙ holds-row n y v (a .items) l (g .holds) ∙ sym (ap back e) in
+      let i : x ≡ back (suc (sizes (a .items))) r = ap (row-of n (a .items)) (g .part) ∙ holds-row n y v (a .items) l (g .holds) ∙ sym (ap (back (suc (sizes (a .items)))) e) in
+      let gz = g .sized in
       let c = few-rows g in
+      let bm = bump-more 300000 (h .rows) (c .0) in
+      let w : suc (sizes (a .items)) ≡ sizeFrom h (f .from .rows) = let q = g .rows in omega (arith, q, gz, bm) in
       let rows : h′ .rows ≡ h .rows + 1 = ap (λ (q : Here). q .rows) b ∙ sym (bump-more 300000 (h .rows) (c .0)) in
       let next : nextOf h′ ≡ nextOf h = ap (λ (q : Here). nextOf q) b in
       let place : h′ .place ≡ h .place = ap (λ (q : Here). q .place) b in
@@ -164,14 +170,15 @@ module _ {f : Phrase} {d : Counts} {ks : List Left} {h : Here} {t : List ℕ} {y
         holds = (x, refl, ap (λ (q : grammar.Row). q .kind) i, ap (λ (q : grammar.Row). q .start) i, ap (λ (q : grammar.Row). q .end) i);
         part = refl;
         rows = omega (arith, rows, len, gr);
-        stored = p ∙ ap (λ (q : List ℕ). putRow q (h .rows) r) (g .stored) ∙ ap (λ (q : ℕ). putRow (store (f .table) (f .from .rows) (a .rows)) q r) gr ∙ ap (λ (q : grammar.Row). putRow (store (f .table) (f .from .rows) (a .rows)) (f .from .rows + length (a .rows)) (asRow q)) (sym i) ∙ sym (store-row (f .table) (f .from .rows) (a .rows) x);
+        stored = p ∙ ap (λ (q : List ℕ). putRow q (h .rows) r (sizeFrom h (f .from .rows))) (g .stored) ∙ ap (λ (q : ℕ). putRow (store (f .table) (f .from .rows) (a .rows)) q r (sizeFrom h (f .from .rows))) gr ∙ ap (putRow (store (f .table) (f .from .rows) (a .rows)) (f .from .rows + length (a .rows)) r) (sym w) ∙ ap (λ (q : grammar.Row). putRow (store (f .table) (f .from .rows) (a .rows)) (f .from .rows + length (a .rows)) (asRow q) (q .size)) (sym i) ∙ sym (store-row (f .table) (f .from .rows) (a .rows) x);
+        sized = let s₁ = row-size n (a .items) (a .part) in omega (arith, s₁, len, gz);
         began = g .began;
         counted = omega (arith, rows, gc, gr);
         spares = omega (arith, rows, next, gs);
       }
     where
-      back : Row → grammar.Row
-      back r = record { kind = r .kind; start = r .start; end = r .end; children = r .children; value = r .value; detail = r .detail }
+      back : ℕ → Row → grammar.Row
+      back z r = record { kind = r .kind; start = r .start; end = r .end; children = r .children; value = r .value; detail = r .detail; size = z }
 
 -- a phrase in it was read, at the same counts or behind its head
 pub read-in : (s : List ℕ) {d d′ : Counts} {o : Scope} {n i z : ℕ} {b : Draft} → inside o d ≡ d′ → phrases.Read (source s) language d′ same n i z b → phrases.Read (source s) language d o n i z b
@@ -183,6 +190,10 @@ unfolding inside
 stops-with s e (stops-none q) = stops-none q
 stops-with s {i = i} {z = z} {y = y} e (stops-in {a = a} q g) = stops-in q (subst (λ (x : Counts). Stops (source s) language x a i z y) (sym e) g)
 
+-- what it left is sized
+pub read-sized : (s : List ℕ) {d : Counts} {o : Scope} {n i z : ℕ} {b : Draft} → phrases.Read (source s) language d o n i z b → Sized b
+read-sized s u = subst Sized (u .draft) (write-sized (u .parts) blank refl)
+
 -- the phrase that stands next, as its reader is asked for it
 abbrev pub next-phrase : Phrase → Counts → ℕ → Here → List ℕ → Phrase
 next-phrase f d n h t = record { text = f .text; counts = d; kind = n; from = h; table = t }
@@ -192,11 +203,12 @@ pub record Added (f : Phrase) (k : ℕ) (h : Here) (t : List ℕ) (y : Tally) (a
   pub holds : Holds (withNode y m) (a .items ++ children-of (b .items))
   pub rows : z .rows ≡ f .from .rows + length (a .rows ++ b .rows)
   pub stored : t′ ≡ store (f .table) (f .from .rows) (a .rows ++ b .rows)
+  pub sized : Sized (with-phrase b a)
   pub counted : f .from .rows + countOf (withNode y m) ≤ z .rows
   pub spares : z .rows + (k + j) + 4 * nextOf (f .from) ≤ f .from .rows + 4 * nextOf z
 
-pub adds : {f : Phrase} {ks : List Left} {h : Here} {t : List ℕ} {y : Tally} {v k j : ℕ} {b : Draft} {m : Node} {z : Here} {t′ : List ℕ} (g : Going f ks h t y v k) → Leaves m (b .items) → z .rows ≡ h .rows + length (b .rows) → t′ ≡ store t (h .rows) (b .rows) → h .rows + 1 ≤ z .rows → z .rows + j + 4 * nextOf h ≤ h .rows + 4 * nextOf z → Added f k h t y (g .draft) b m z t′ j
-adds {f} {h = h} {y = y} {b = b} {m = m} {z = z} g leaves ur stored uc us =
+pub adds : {f : Phrase} {ks : List Left} {h : Here} {t : List ℕ} {y : Tally} {v k j : ℕ} {b : Draft} {m : Node} {z : Here} {t′ : List ℕ} (g : Going f ks h t y v k) → Leaves m (b .items) → z .rows ≡ h .rows + length (b .rows) → t′ ≡ store t (h .rows) (b .rows) → Sized b → h .rows + 1 ≤ z .rows → z .rows + j + 4 * nextOf h ≤ h .rows + 4 * nextOf z → Added f k h t y (g .draft) b m z t′ j
+adds {f} {h = h} {y = y} {b = b} {m = m} {z = z} g leaves ur stored sb uc us =
     let a : Draft = g .draft in
     let len : length (a .rows ++ b .rows) ≡ length (a .rows) + length (b .rows) = length-append (a .rows) (b .rows) in
     let gr = g .rows in
@@ -206,6 +218,7 @@ adds {f} {h = h} {y = y} {b = b} {m = m} {z = z} g leaves ur stored uc us =
       holds = holds-node m y (a .items) (b .items) (g .holds) leaves;
       rows = omega (arith, len, gr, ur);
       stored = stored ∙ ap (λ (q : List ℕ). store q (h .rows) (b .rows)) (g .stored) ∙ ap (λ (q : ℕ). store (store (f .table) (f .from .rows) (a .rows)) q (b .rows)) gr ∙ sym (store-append (f .table) (f .from .rows) (a .rows) (b .rows));
+      sized = phrase-sized a b (g .sized) sb;
       counted = counted-node y (omega (arith, gc, uc));
       spares = omega (arith, gs, us);
     }
@@ -216,11 +229,11 @@ adds {f} {h = h} {y = y} {b = b} {m = m} {z = z} g leaves ur stored uc us =
     counted-node (many a b c x) q = q
 
 pub adds-phrase : {f : Phrase} {ks : List Left} {h : Here} {t : List ℕ} {y : Tally} {v k n j : ℕ} {d : Counts} {m : Node} {z : Here} {t′ : List ℕ} (g : Going f ks h t y v k) (u : Whole (next-phrase f d n h t) j m z t′) → Added f k h t y (g .draft) (u .draft) m z t′ j
-adds-phrase g u = adds g (u .leaves) (u .rows) (u .stored) (u .counted) (u .spares)
+adds-phrase {f} g u = adds g (u .leaves) (u .rows) (u .stored) (read-sized (f .text) (u .read)) (u .counted) (u .spares)
 
 -- so the phrase goes on
 pub goes-added : {f : Phrase} {ks ks′ : List Left} {h : Here} {t : List ℕ} {y : Tally} {v k j : ℕ} {b : Draft} {m : Node} {z : Here} {t′ : List ℕ} (g : Going f ks h t y v k) → Added f k h t y (g .draft) b m z t′ j → Open (source (f .text)) language (f .counts) same (f .kind) (f .from .place) ks′ (z .place) (with-phrase b (g .draft)) → Stands (f .text) z → Going f ks′ z t′ (withNode y m) v (k + j)
-goes-added {b = b} g x o s = record { draft = with-phrase b (g .draft); opened = o; stands = s; holds = x .holds; part = g .part; rows = x .rows; stored = x .stored; began = g .began; counted = x .counted; spares = x .spares }
+goes-added {b = b} g x o s = record { draft = with-phrase b (g .draft); opened = o; stands = s; holds = x .holds; part = g .part; rows = x .rows; stored = x .stored; sized = x .sized; began = g .began; counted = x .counted; spares = x .spares }
 
 pub reads-one : {f : Phrase} {d : Counts} {ks : List Left} {h : Here} {t : List ℕ} {y : Tally} {v k : ℕ} {ss : List Symbol} {o : Scope} {n j : ℕ} {d′ : Counts} {m : Node} {h′ : Here} {t′ : List ℕ} → Going f (at d (phrase o n ∷ ss) ∷ ks) h t y v k → one-of n rest-kinds ≡ false → inside o d ≡ d′ → Whole (next-phrase f d′ n h t) j m h′ t′ → Going f (at d ss ∷ ks) h′ t′ (withNode y m) v (k + j)
 reads-one {f} g r e u = goes-added g (adds-phrase g u) (reads (source (f .text)) language r (read-in (f .text) e (u .read)) (g .opened)) (u .stands)
@@ -278,7 +291,7 @@ relays g q u e = stopped e (refuses-in g q (stopped-of u e))
 
 -- what is known of a phrase may be less: of one row only the span; of the rows to spare fewer
 pub as-many : {f : Phrase} {ks : List Left} {h : Here} {t : List ℕ} {n a e v k : ℕ} → Going f ks h t (lone n a e) v k → Going f ks h t (many a e 1 none) v k
-as-many {a = a} g = record { draft = g .draft; opened = g .opened; stands = g .stands; holds = ap sum-of (g .holds .1) ∙ ap (λ (x : ℕ). sum x (g .holds .0 .end) 1 none) (g .holds .3) ∙ ap (λ (x : ℕ). sum a x 1 none) (g .holds .4); part = g .part; rows = g .rows; stored = g .stored; began = g .began; counted = g .counted; spares = g .spares }
+as-many {a = a} g = record { draft = g .draft; opened = g .opened; stands = g .stands; holds = ap sum-of (g .holds .1) ∙ ap (λ (x : ℕ). sum x (g .holds .0 .end) 1 none) (g .holds .3) ∙ ap (λ (x : ℕ). sum a x 1 none) (g .holds .4); part = g .part; rows = g .rows; stored = g .stored; sized = g .sized; began = g .began; counted = g .counted; spares = g .spares }
 
 pub fewer : {f : Phrase} {ks : List Left} {h : Here} {t : List ℕ} {y : Tally} {v k : ℕ} (j : ℕ) → j ≤ k → Going f ks h t y v k → Going f ks h t y v j
-fewer j q g = record { draft = g .draft; opened = g .opened; stands = g .stands; holds = g .holds; part = g .part; rows = g .rows; stored = g .stored; began = g .began; counted = g .counted; spares = let x = g .spares in omega (arith, x, q) }
+fewer j q g = record { draft = g .draft; opened = g .opened; stands = g .stands; holds = g .holds; part = g .part; rows = g .rows; stored = g .stored; sized = g .sized; began = g .began; counted = g .counted; spares = let x = g .spares in omega (arith, x, q) }

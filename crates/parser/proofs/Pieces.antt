@@ -34,7 +34,7 @@ module _ (s : List ℕ) (t : List ℕ) (n a w e j : ℕ) {z : Size} (hz : z ≡ 
   unfolding pieceRead pieceTable
   piece-empty q o x y = (ap (Done (partNode w a e 0)) x ∙ rw (size-is q, eq-eqb _ _ o) refl, rw (size-is q, eq-eqb _ _ o) y)
 
-  pub piece-row : {h : Here} {t′ : List ℕ} {c m : ℕ} → z ≡ Size.Is c → (c ≡ 0 → ⊥) → h ≡ hereAt s j m → m ≡ bumped n → t′ ≡ putRow t n (partRow a e c) → Is (Done (partNode w a e 1) h) t′
+  pub piece-row : {h : Here} {t′ : List ℕ} {c m : ℕ} → z ≡ Size.Is c → (c ≡ 0 → ⊥) → h ≡ hereAt s j m → m ≡ bumped n → t′ ≡ putRow t n (partRow a e c) 1 → Is (Done (partNode w a e 1) h) t′
   unfolding pieceRead pieceTable
   piece-row q o x b y = (ap (Done (partNode w a e 1)) (x ∙ ap (hereAt s j) b) ∙ rw (size-is q, ne-eqb _ _ o) refl, rw (size-is q, ne-eqb _ _ o) y)
 

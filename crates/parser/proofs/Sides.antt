@@ -15,7 +15,7 @@ use Rattle.grammar.specs.Language.{roto}
 use Rattle.grammar.specs.Table.{rest-kinds}
 use Rattle.grammar.specs.Readings.{peek}
 use Rattle.grammar.specs.Runs.{may}
-use Rattle.grammar.specs.Rows.{Item, own, count, Draft, children-of}
+use Rattle.grammar.specs.Rows.{Item, own, child, count, sizes, Draft, children-of}
 use Rattle.grammar.specs.Rows as grammar
 use Rattle.grammar.specs.Refusals.{left, want, said}
 use Rattle.grammar.proofs.Bools.{F→eq}
@@ -23,6 +23,7 @@ use Rattle.grammar.proofs.Frame.{with-own}
 use Rattle.grammar.proofs.Summary.{sum, sum-of}
 use Rattle.grammar.proofs.Open.{Left, Open, with-phrase, finish, pop, reads, wants, forks, signed, row-left, path-left}
 use Rattle.answers.specs.Source.{source}
+use Rattle.grammar.proofs.Sizes.{Sized, own-sized}
 use Rattle.parser.specs.declared.Here.{Here}
 use Rattle.parser.specs.declared.Node.{Node}
 use Rattle.parser.specs.Places.{wordOf, nextOf, passed, unusedAt, refusalAt}
@@ -81,6 +82,20 @@ module _ {f : Phrase} {d : Counts} {ks : List Left} {h : Here} {t : List ℕ} {y
       not-not true t = tt
       not-not false t = absurd t
 
+-- words alone
+empty : (xs : List Item) {a e : ℕ} {w : Option ℕ} → sum-of xs ≡ sum a e 0 w → count xs ≡ 0
+empty [] q = refl
+empty (y ∷ ys) q = cc
+
+-- a phrase that has no row yet: those of its subtree begin where the reader stands
+pub none-yet : {f : Phrase} {ks : List Left} {h : Here} {t : List ℕ} {a e v k : ℕ} {w : Option ℕ} → Going f ks h t (many a e 0 w) v k → f .from .rows ≡ h .rows
+none-yet g = let z = no-sizes (g .draft .items) (empty (g .draft .items) (g .holds)) in let s = g .sized in let r = g .rows in omega (arith, z, s, r)
+  where
+    no-sizes : (xs : List Item) → count xs ≡ 0 → sizes xs ≡ 0
+    no-sizes [] q = refl
+    no-sizes (own x ∷ xs) q = no-sizes xs q
+    no-sizes (child r ∷ xs) q = absurd (omega (arith, q))
+
 -- a row that words stand round: the phrase leaves that row
 pub record Around (f : Phrase) (ks : List Left) (h : Here) (t : List ℕ) (m : Node) (k : ℕ) : Type 0 where
   pub draft : Draft
@@ -89,6 +104,7 @@ pub record Around (f : Phrase) (ks : List Left) (h : Here) (t : List ℕ) (m : N
   pub leaves : Leaves m (draft .items)
   pub rows : h .rows ≡ f .from .rows + length (draft .rows)
   pub stored : t ≡ store (f .table) (f .from .rows) (draft .rows)
+  pub sized : Sized draft
   pub counted : f .from .rows + 1 ≤ h .rows
   pub spares : h .rows + k + 4 * nextOf (f .from) ≤ f .from .rows + 4 * nextOf h
 
@@ -106,13 +122,10 @@ module _ {f : Phrase} {d : Counts} {ks : List Left} {h : Here} {t : List ℕ} wh
         leaves = (u .leaves .0, both ∙ ap (λ (q : List Item). q ++ children-of (children-of (u .draft .items))) none-yet ∙ children-twice (u .draft .items) ∙ u .leaves .1, u .leaves .2, u .leaves .3, u .leaves .4);
         rows = x .rows;
         stored = x .stored;
+        sized = x .sized;
         counted = let c = x .counted in omega (arith, c);
         spares = x .spares;
       }
-    where
-      empty : (xs : List Item) {a e : ℕ} {w : Option ℕ} → sum-of xs ≡ sum a e 0 w → count xs ≡ 0
-      empty [] q = refl
-      empty (y ∷ ys) q = cc
 
   pub encloses-word : {ss : List Symbol} {q : Ask} {w : List ℕ} {k : ℕ} {m : Node} {z : Here} → Around f (at d (token q w ∷ ss) ∷ ks) h t m k → T (solid w) → T (one-of (wordOf h) w) → T (kept q d (tokenOf (f .text) h)) → z ≡ passed (f .text) h → Around f (at (after q d) ss ∷ ks) z t m (k + 4)
   encloses-word {ss} {q} {w} {k} {m} {z} g o p x e =
@@ -128,12 +141,13 @@ module _ {f : Phrase} {d : Counts} {ks : List Left} {h : Here} {t : List ℕ} wh
         leaves = (g .leaves .0, children-append (g .draft .items) (own (tokenOf (f .text) h) ∷ []) ∙ append-nil (children-of (g .draft .items)) ∙ g .leaves .1, g .leaves .2, g .leaves .3, g .leaves .4);
         rows = r ∙ g .rows;
         stored = g .stored;
+        sized = own-sized (tokenOf (f .text) h) (g .draft) (g .sized);
         counted = omega arith;
         spares = omega arith;
       }
 
   pub encloses-out : {k : ℕ} {m : Node} → Around f (at d [] ∷ ks) h t m k → Around f ks h t m k
-  encloses-out g = record { draft = g .draft; opened = pop (source (f .text)) language (g .opened); stands = g .stands; leaves = g .leaves; rows = g .rows; stored = g .stored; counted = g .counted; spares = g .spares }
+  encloses-out g = record { draft = g .draft; opened = pop (source (f .text)) language (g .opened); stands = g .stands; leaves = g .leaves; rows = g .rows; stored = g .stored; sized = g .sized; counted = g .counted; spares = g .spares }
 
   pub encloses-misses : {ss : List Symbol} {q : Ask} {w : List ℕ} {k : ℕ} {m : Node} → Around f (at d (token q w ∷ ss) ∷ ks) h t m k → (T (one-of (wordOf h) w) → ⊥) → Stopped f (unusedAt h) t
   encloses-misses {w = w} g n = record { place = h .place; why = want w; stops = wants (source (f .text)) language (lacking (g .stands) w n) (g .opened); says = says (g .stands) (want w) (λ len x. refl, λ len q. refl); kept = ap length (g .stored) ∙ store-length (f .table) (f .from .rows) (g .draft .rows) }

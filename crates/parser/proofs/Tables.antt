@@ -7,38 +7,39 @@ use lib.Dec.{ltb}
 use lib.ListN.{length, set, length-set}
 use native.Mathlib.Omega.{arith}
 use Rattle.rows.specs.declared.Row.{Row}
-use Rattle.rows.specs.Rows.{room, written, putRow}
+use Rattle.rows.specs.Rows.{width, room, written, putRow}
 use Rattle.grammar.specs.Rows as grammar
 use Rattle.parser.specs.Going.{asRow, store}
 
 pub store-append : (t : List ℕ) (n : ℕ) (a b : List grammar.Row) → store t n (a ++ b) ≡ store (store t n a) (n + length a) b
 unfolding store
 store-append t n [] b = ap (λ (k : ℕ). store t k b) (omega arith)
-store-append t n (r ∷ a) b = store-append (putRow t n (asRow r)) (n + 1) a b ∙ ap (λ (k : ℕ). store (store (putRow t n (asRow r)) (n + 1) a) k b) (omega arith)
+store-append t n (r ∷ a) b = store-append (putRow t n (asRow r) (r .size)) (n + 1) a b ∙ ap (λ (k : ℕ). store (store (putRow t n (asRow r) (r .size)) (n + 1) a) k b) (omega arith)
 
 -- one row more
-pub store-row : (t : List ℕ) (n : ℕ) (a : List grammar.Row) (r : grammar.Row) → store t n (a ++ (r ∷ [])) ≡ putRow (store t n a) (n + length a) (asRow r)
+pub store-row : (t : List ℕ) (n : ℕ) (a : List grammar.Row) (r : grammar.Row) → store t n (a ++ (r ∷ [])) ≡ putRow (store t n a) (n + length a) (asRow r) (r .size)
 unfolding store
 store-row t n a r = store-append t n a (r ∷ [])
 
-put-length : (t : List ℕ) (n : ℕ) (r : Row) → length (putRow t n r) ≡ length t
+pub put-length : (t : List ℕ) (n : ℕ) (r : Row) (z : ℕ) → length (putRow t n r z) ≡ length t
 unfolding putRow
-put-length t n r = go (ltb n (room t))
+put-length t n r z = go (ltb n (room t))
   where
-    six : (i : ℕ) → length (written t i r) ≡ length t
-    six i =
-        length-set (set (set (set (set (set t i (r .kind)) (i + 1) (r .start)) (i + 2) (r .end)) (i + 3) (r .children)) (i + 4) (r .value)) (i + 5) (r .detail)
+    all : (i : ℕ) → length (written t i r z) ≡ length t
+    all i =
+        length-set (set (set (set (set (set (set t i (r .kind)) (i + 1) (r .start)) (i + 2) (r .end)) (i + 3) (r .children)) (i + 4) (r .value)) (i + 5) (r .detail)) (i + 6) z
+        ∙ length-set (set (set (set (set (set t i (r .kind)) (i + 1) (r .start)) (i + 2) (r .end)) (i + 3) (r .children)) (i + 4) (r .value)) (i + 5) (r .detail)
         ∙ length-set (set (set (set (set t i (r .kind)) (i + 1) (r .start)) (i + 2) (r .end)) (i + 3) (r .children)) (i + 4) (r .value)
         ∙ length-set (set (set (set t i (r .kind)) (i + 1) (r .start)) (i + 2) (r .end)) (i + 3) (r .children)
         ∙ length-set (set (set t i (r .kind)) (i + 1) (r .start)) (i + 2) (r .end)
         ∙ length-set (set t i (r .kind)) (i + 1) (r .start)
         ∙ length-set t i (r .kind)
 
-    go : (b : Bool) → length (cond b (written t (n * 6) r) t) ≡ length t
-    go true = six (n * 6)
+    go : (b : Bool) → length (cond b (written t (n * width) r z) t) ≡ length t
+    go true = all (n * width)
     go false = refl
 
 pub store-length : (t : List ℕ) (n : ℕ) (a : List grammar.Row) → length (store t n a) ≡ length t
 unfolding store
 store-length t n [] = refl
-store-length t n (r ∷ a) = store-length (putRow t n (asRow r)) (n + 1) a ∙ put-length t n (asRow r)
+store-length t n (r ∷ a) = store-length (putRow t n (asRow r) (r .size)) (n + 1) a ∙ put-length t n (asRow r) (r .size)

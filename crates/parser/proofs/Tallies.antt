@@ -3,13 +3,13 @@ use mathlib.Core.Path.{_≡_, refl, ap, _∙_}
 use mathlib.Core.List.{List, [], _∷_, _++_}
 use mathlib.Core.Bool.{false}
 use mathlib.Core.Option.{none, some}
-use Prim.Native.Nat.{ℕ, _+_}
+use Prim.Native.Nat.{ℕ, _+_, suc}
 use lib.Dec.{eqb}
 use native.Mathlib.Omega.{arith}
 use Rattle.rows.specs.declared.Row.{Row}
 use Rattle.grammar.specs.Grammar.{Token}
 use Rattle.grammar.specs.Table.{literal-row}
-use Rattle.grammar.specs.Rows.{Item, own, child, count, children-of, first-row, row-of}
+use Rattle.grammar.specs.Rows.{Item, own, child, count, children-of, first-row, row-of, sizes}
 use Rattle.grammar.specs.Rows as grammar
 use Rattle.grammar.proofs.Summary.{Sum, sum, sum-of, sum-own, sum-child, sum-snoc-own, sum-snoc-child, sum-row, row-sum}
 use Rattle.parser.specs.Places.{wordOf, endOf}
@@ -37,13 +37,13 @@ holds-node m (many a e c w) xs zs h (r, q, pk, ps, pe) =
     ap (λ (z : List Item). sum-of (xs ++ z)) q ∙ sum-snoc-child xs r ∙ ap (λ (z : Sum). sum-child z r) h ∙ ap (λ (n : ℕ). sum a n (c + 1) w) pe
 
 -- the row over it
-abbrev row-for : ℕ → Tally → ℕ → grammar.Row
-row-for k y v = let r : Row = rowOver k y v in record { kind = r .kind; start = r .start; end = r .end; children = r .children; value = r .value; detail = r .detail }
+abbrev row-for : ℕ → Tally → ℕ → ℕ → grammar.Row
+row-for k y v z = let r : Row = rowOver k y v in record { kind = r .kind; start = r .start; end = r .end; children = r .children; value = r .value; detail = r .detail; size = z }
 
-pub holds-row : (k : ℕ) (y : Tally) (v : ℕ) (xs : List Item) → eqb k literal-row ≡ false → Holds y xs → row-of k xs v ≡ row-for k y v
-holds-row k bare v xs n e = row-sum k xs v n ∙ ap (λ (z : List Item). sum-row k (sum-of z) v) e
-holds-row k (lone j a e) v xs n (r, q, pk, ps, pe) = row-sum k xs v n ∙ ap (λ (z : List Item). sum-row k (sum-of z) v) q ∙ ap (λ (x : ℕ). sum-row k (sum x (r .end) 1 none) v) ps ∙ ap (λ (x : ℕ). sum-row k (sum a x 1 none) v) pe
-holds-row k (many a e c w) v xs n q = row-sum k xs v n ∙ ap (λ (z : Sum). sum-row k z v) q
+pub holds-row : (k : ℕ) (y : Tally) (v : ℕ) (xs : List Item) → eqb k literal-row ≡ false → Holds y xs → row-of k xs v ≡ row-for k y v (suc (sizes xs))
+holds-row k bare v xs n e = row-sum k xs v n ∙ ap (λ (q : Sum). sum-row k q v (suc (sizes xs))) (ap sum-of e)
+holds-row k (lone j a e) v xs n (r, q, pk, ps, pe) = row-sum k xs v n ∙ ap (λ (y : Sum). sum-row k y v (suc (sizes xs))) (ap sum-of q) ∙ ap (λ (x : ℕ). sum-row k (sum x (r .end) 1 none) v (suc (sizes xs))) ps ∙ ap (λ (x : ℕ). sum-row k (sum a x 1 none) v (suc (sizes xs))) pe
+holds-row k (many a e c w) v xs n q = row-sum k xs v n ∙ ap (λ (y : Sum). sum-row k y v (suc (sizes xs))) q
 
 -- where there is no row, and behind a word that stands round a row
 pub no-children : (xs : List Item) → count xs ≡ 0 → children-of xs ≡ []

@@ -17,6 +17,7 @@ use Rattle.grammar.proofs.Bools.{and-l}
 use Rattle.grammar.proofs.Frame.{no-text, with-own}
 use Rattle.grammar.proofs.Summary.{Sum, sum, sum-own, sum-child, sum-snoc-own, sum-snoc-child}
 use Rattle.grammar.proofs.Open.{Left, Open, take, scan, tears, spoils}
+use Rattle.grammar.proofs.Sizes.{own-sized, token-sized}
 use Rattle.answers.specs.Source.{source}
 use Rattle.parser.specs.declared.Here.{Here}
 use Rattle.parser.specs.Places.{wordOf, nextOf, hereAt, refusalAt}
@@ -28,7 +29,7 @@ use Rattle.parser.proofs.Going.{at, kept-length}
 
 -- the table behind a piece of text
 abbrev pub wroteText : List ℕ → ℕ → Token → List ℕ
-wroteText t n x = cond (eqb (x .value) 0) t (putRow t n (asRow (text-row x)))
+wroteText t n x = cond (eqb (x .value) 0) t (putRow t n (asRow (text-row x)) 1)
 
 -- a piece adds itself to what the phrase has
 record Spelt (f : Phrase) (a b : Draft) (p c v k : ℕ) (x : Token) (t′ : List ℕ) : Type 0 where
@@ -47,9 +48,9 @@ spelt f a p e c v x n t t′ m h r s q = go (is-text x) (eqb (x .value) 0) m q
     y : Draft
     y = record { rows = a .rows ++ (text-row x ∷ []); items = a .items ++ (child (text-row x) ∷ []); part = a .part }
 
-    go : (b d : Bool) → T b → t′ ≡ cond d t (putRow t n (asRow (text-row x))) → Spelt f a (cond b (cond d w y) w) p c v (cond b (cond d 0 1) 0) x t′
+    go : (b d : Bool) → T b → t′ ≡ cond d t (putRow t n (asRow (text-row x)) 1) → Spelt f a (cond b (cond d w y) w) p c v (cond b (cond d 0 1) 0) x t′
     go true true tb u = record { holds = sum-snoc-own (a .items) x ∙ ap (λ (z : Sum). sum-own z x) h ∙ ap (λ (z : ℕ). sum p (x .end) z (some v)) (omega arith); part = refl; many-rows = omega arith; stored = u ∙ s }
-    go true false tb u = record { holds = sum-snoc-child (a .items) (text-row x) ∙ ap (λ (z : Sum). sum-child z (text-row x)) h; part = refl; many-rows = length-append (a .rows) (text-row x ∷ []); stored = u ∙ ap (λ (z : List ℕ). putRow z n (asRow (text-row x))) s ∙ ap (λ (z : ℕ). putRow (store (f .table) (f .from .rows) (a .rows)) z (asRow (text-row x))) r ∙ sym (store-row (f .table) (f .from .rows) (a .rows) (text-row x)) }
+    go true false tb u = record { holds = sum-snoc-child (a .items) (text-row x) ∙ ap (λ (z : Sum). sum-child z (text-row x)) h; part = refl; many-rows = length-append (a .rows) (text-row x ∷ []); stored = u ∙ ap (λ (z : List ℕ). putRow z n (asRow (text-row x)) 1) s ∙ ap (λ (z : ℕ). putRow (store (f .table) (f .from .rows) (a .rows)) z (asRow (text-row x)) 1) r ∙ sym (store-row (f .table) (f .from .rows) (a .rows) (text-row x)) }
     go false d tb u = absurd tb
 
 pub count-token : (y : Tally) (h : Here) → countOf (withToken y h) ≡ countOf y
@@ -86,6 +87,7 @@ module _ {f : Phrase} {d : Counts} {ks : List Left} {h : Here} {t : List ℕ} {y
         part = sp .part ∙ g .part;
         rows = omega (arith, zr, gr, sr);
         stored = sp .stored;
+        sized = token-sized x b (own-sized (tokenOf s h) (g .draft) (g .sized));
         began = g .began;
         counted = omega (arith, zr, gc, cy);
         spares = omega (arith, zr, gs, zn, lo);

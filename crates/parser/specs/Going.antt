@@ -16,7 +16,7 @@ use Rattle.rows.specs.Rows.{putRow}
 use Rattle.grammar.specs.Grammar.{same, Token, Language}
 use Rattle.grammar.specs.Limits.{Counts}
 use Rattle.grammar.specs.Language.{roto}
-use Rattle.grammar.specs.Rows.{Item, child, Draft, children-of, detail-for}
+use Rattle.grammar.specs.Rows.{Item, child, Draft, sizes, children-of, detail-for}
 use Rattle.grammar.specs.Rows as grammar
 use Rattle.grammar.specs.Refusals.{Why, said}
 use Rattle.grammar.specs.Phrases as phrases
@@ -52,7 +52,7 @@ asRow r = record { kind = r .kind; start = r .start; end = r .end; children = r 
 
 unfoldable pub store : List ℕ → ℕ → List grammar.Row → List ℕ
 store t n [] = t
-store t n (r ∷ rs) = store (putRow t n (asRow r)) (n + 1) rs
+store t n (r ∷ rs) = store (putRow t n (asRow r) (r .size)) (n + 1) rs
 
 -- What a phrase has so far, as far as the row over it depends on it: nothing; one row and no word (its kind, start and
 -- end); or whatever has a span (start, end, the number of rows, and the first word of its own if there is one).
@@ -112,6 +112,7 @@ pub record Going (f : Phrase) (ks : List Left) (h : Here) (t : List ℕ) (y : Ta
   pub part : draft .part ≡ v
   pub rows : h .rows ≡ f .from .rows + length (draft .rows)
   pub stored : t ≡ store (f .table) (f .from .rows) (draft .rows)
+  pub sized : sizes (draft .items) ≡ length (draft .rows)
   pub began : f .from .rows ≤ 4 * nextOf (f .from)
   pub counted : f .from .rows + countOf y ≤ h .rows
   pub spares : h .rows + k + 4 * nextOf (f .from) ≤ f .from .rows + 4 * nextOf h

@@ -1,7 +1,7 @@
 -- Where a reader stands, and what it answers there.
 use mathlib.Core.Bool.{cond}
 use mathlib.Core.List.{List}
-use Prim.Native.Nat.{ℕ, _+_}
+use Prim.Native.Nat.{ℕ, _+_, _-_}
 use lib.Dec.{eqb, ltb}
 use lib.ListN.{length}
 use lib.Seq.{slice}
@@ -102,6 +102,14 @@ plainRow k a e c = record { kind = k; start = a; end = e; children = c; value = 
 abbrev pub nodeOf : Row → Node
 nodeOf r = record { kind = r .kind; start = r .start; end = r .end; children = 0 }
 
+-- C-14: the rows from so many on, and one more
+abbrev pub sizeFrom : Here → ℕ → ℕ
+sizeFrom h since = bumped (h .rows) - since
+
+-- the table with a row at its place, the last of those from so many on
+abbrev pub putOver : List ℕ → Here → Row → ℕ → List ℕ
+putOver t h r since = putRow t (h .rows) r (sizeFrom h since)
+
 -- past a token: any; one of this word; one under a limit, of which n are left; a bracket that opens
 abbrev pub past : List ℕ → Here → Read
 past s h = Done (tokenNode h) (passed s h)
@@ -142,7 +150,7 @@ pieceRead s n a w e j (Size.Is c) = cond (eqb c 0) (Done (partNode w a e 0) (her
 pieceRead s n a w e j Size.None = read.Refused (refusalAt 7 a e)
 
 unfoldable pub pieceTable : List ℕ → ℕ → ℕ → ℕ → Size → List ℕ
-pieceTable t n a e (Size.Is c) = cond (eqb c 0) t (putRow t n (partRow a e c))
+pieceTable t n a e (Size.Is c) = cond (eqb c 0) t (putRow t n (partRow a e c) 1)
 pieceTable t n a e Size.None = t
 
 unfoldable pub partRead : List ℕ → ℕ → ℕ → Part → Read

@@ -6,7 +6,7 @@ ghost use lib.ListN.{length};
 ghost use lib.Seq.{slice};
 ghost use Rattle.texts.specs.Parts.{partAt};
 ghost use Rattle.texts.specs.Texts.{textOf};
-ghost use Rattle.parser.specs.Places.{bumped, refusedWord, wordOf, endOf, hereAt, refusalAt, unused, took, under, expected, opening, closing, later, nodeOf, plainRow, partRow, pieceRead, pieceTable, partRead, partTable};
+ghost use Rattle.parser.specs.Places.{bumped, refusedWord, wordOf, endOf, hereAt, refusalAt, unused, took, under, expected, opening, closing, later, nodeOf, sizeFrom, putOver, plainRow, partRow, pieceRead, pieceTable, partRead, partTable};
 ghost use Rattle.parser.specs.Counted.{lessened, opened, signed, plain, headed, chained, unchained};
 ghost use Rattle.parser.specs.declared.Read.the-variants.{Done, Refused};
 use chars::refusal;
@@ -49,6 +49,18 @@ impl Here {
         match step {
             Step::Taken(_, _, next) => next.at,
             Step::Refused(why) => why.end,
+        }
+    }
+
+    // The rows from so many on, and one more.
+    fn size(self, since: usize) -> u64
+        ensures { λ r. ⌜ r ≡ sizeFrom self since ⌝ }
+    {
+        let count = row_more(self.rows);
+        if since < count {
+            (count - since) as u64
+        } else {
+            0
         }
     }
 
@@ -343,10 +355,10 @@ pub fn plain_row(kind: u64, start: usize, end: usize, children: u64) -> Row
 }
 
 // Writes a phrase's row.
-pub fn finish(table: &mut [u64], row: Row, here: Here) -> Read
-    ensures { λ r. ⌜ (r ≡ Done (nodeOf row) (later here)) × (now (table .exit) ≡ putRow (now (table .entry)) (here .rows) row) ⌝ }
+pub fn finish(table: &mut [u64], row: Row, here: Here, since: usize) -> Read
+    ensures { λ r. ⌜ (r ≡ Done (nodeOf row) (later here)) × (now (table .exit) ≡ putOver (now (table .entry)) here row since) ⌝ }
 {
-    rows::put(table, here.rows, row);
+    rows::put(table, here.rows, row, here.size(since));
     Read::Done(
         Node {
             kind: row.kind,
@@ -400,7 +412,7 @@ fn text_row(
             look(s, cursor, rows),
         );
     }
-    rows::put(table, rows, part_row(start, end, count));
+    rows::put(table, rows, part_row(start, end, count), 1);
     Read::Done(
         Node {
             kind: word,

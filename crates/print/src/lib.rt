@@ -1,6 +1,7 @@
 // Answers as lines of text on standard output, in document 01's form.
 ghost use Prim.Native.Nat.{_+_, _≤_};
 ghost use lib.ListN.{length};
+ghost use Rattle.rows.specs.Rows.{width};
 use chars::Answer;
 use chars::refusal;
 use libc::STDOUT_FILENO;
@@ -99,9 +100,9 @@ pub fn answer_decode(s: &[u8], room: usize) {
     decoded_within(s, &mut out, room);
 }
 
-// A row: its six numbers.
+// A row: its seven numbers.
 fn row_line(table: &[u64], at: usize)
-    requires { ⌜ at + 6 ≤ length (now table) ⌝ }
+    requires { ⌜ at + width ≤ length (now table) ⌝ }
 {
     io::print_decimal(STDOUT_FILENO, table[at]);
     number(table[at + 1]);
@@ -109,6 +110,7 @@ fn row_line(table: &[u64], at: usize)
     number(table[at + 3]);
     number(table[at + 4]);
     number(table[at + 5]);
+    number(table[at + 6]);
     io::write_all(STDOUT_FILENO, b"\n");
 }
 
@@ -116,8 +118,8 @@ fn row_line(table: &[u64], at: usize)
 fn row_lines(table: &[u64], count: usize) {
     let mut i = 0;
     while i < count {
-        if i < table.len() / 6 {
-            row_line(table, i * 6);
+        if i < table.len() / rows::WIDTH {
+            row_line(table, i * rows::WIDTH);
         }
         i += 1;
     }

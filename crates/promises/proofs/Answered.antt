@@ -21,7 +21,7 @@ use Rattle.parser.specs.declared.Limits.{Limits}
 use Rattle.parser.specs.declared.Node.{Node}
 use Rattle.parser.specs.declared.Read.{Read}
 use Rattle.parser.specs.declared.Read.the-variants.{Done, Refused}
-use Rattle.parser.specs.Places.{wordOf, startOf, endOf, nextOf, passed, later, unused, nodeOf}
+use Rattle.parser.specs.Places.{wordOf, startOf, endOf, nextOf, passed, later, unused, nodeOf, bumped, putOver}
 use Rattle.parser.specs.Counted.{counts, plain as plainly}
 use Rattle.parser.specs.Going.{Stands, Tally, bare, many, rowOver, Phrase, Going, Answers}
 use Rattle.parser.proofs.Standing.{here-rows, solid, next-small, says, is-word}
@@ -88,21 +88,29 @@ pub not-first : (x c : ℕ) (w : List ℕ) → (x ≡ c → ⊥) → (T (one-of 
 not-first x c w n k t = elim (or-cases (eqb x c) (one-of x w) t) [ inl e ↦ n (eqb→eq x c e) | inr e ↦ k e ]
 
 -- a row behind a token, where the table is told by the place before it
-pub put-behind : (s : List ℕ) (h : Here) (t : List ℕ) (q : Row) {t′ : List ℕ} → t′ ≡ putRow t (h .rows) q → t′ ≡ putRow t ((passed s h) .rows) q
-put-behind s h t q e = e ∙ ap (λ (n : ℕ). putRow t n q) (sym (here-rows s (nextOf h) (h .rows)))
+pub put-behind : (s : List ℕ) (h : Here) (t : List ℕ) (q : Row) (since : ℕ) {t′ : List ℕ} → t′ ≡ putOver t h q since → t′ ≡ putOver t (passed s h) q since
+put-behind s h t q since e = e ∙ ap (λ (n : ℕ). putRow t n q (bumped n - since)) (sym (here-rows s (nextOf h) (h .rows)))
+
+-- where the phrase's rows began, by another name
+pub put-since : (t : List ℕ) (h : Here) (q : Row) {m n : ℕ} {t′ : List ℕ} → m ≡ n → t′ ≡ putOver t h q n → t′ ≡ putOver t h q m
+put-since t h q e p = p ∙ ap (putOver t h q) (sym e)
 
 -- a phrase whose last step is its row; the same from within its last rest
 module _ {f : Phrase} {d : Counts} {h : Here} {t : List ℕ} {y : Tally} {v i n : ℕ} {q : Row} {r : Read} {t′ : List ℕ} {k : ℕ} where
-  pub finished : Going f (at d (note n ∷ []) ∷ []) h t y v i → k + 1 ≤ i → eqb n 0 ≡ false → eqb n literal-row ≡ false → q ≡ rowOver n y v → r ≡ Done (nodeOf q) (later h) → t′ ≡ putRow t (h .rows) q → Answers f k r t′
+  pub finished : Going f (at d (note n ∷ []) ∷ []) h t y v i → k + 1 ≤ i → eqb n 0 ≡ false → eqb n literal-row ≡ false → q ≡ rowOver n y v → r ≡ Done (nodeOf q) (later h) → t′ ≡ putOver t h q (f .from .rows) → Answers f k r t′
   finished g l a b e p w = done p (ends (out (writes (fewer (k + 1) l g) a b e refl w)) refl refl refl)
 
-  pub finished-in : {d′ : Counts} → Going f (at d (note n ∷ []) ∷ at d′ [] ∷ []) h t y v i → k + 1 ≤ i → eqb n 0 ≡ false → eqb n literal-row ≡ false → q ≡ rowOver n y v → r ≡ Done (nodeOf q) (later h) → t′ ≡ putRow t (h .rows) q → Answers f k r t′
+  pub finished-in : {d′ : Counts} → Going f (at d (note n ∷ []) ∷ at d′ [] ∷ []) h t y v i → k + 1 ≤ i → eqb n 0 ≡ false → eqb n literal-row ≡ false → q ≡ rowOver n y v → r ≡ Done (nodeOf q) (later h) → t′ ≡ putOver t h q (f .from .rows) → Answers f k r t′
   finished-in g l a b e p w = done p (ends (out (out (writes (fewer (k + 1) l g) a b e refl w))) refl refl refl)
 
 -- a phrase that is one word and its row
-pub word-row : {f : Phrase} {d : Counts} {h h′ : Here} {t t′ : List ℕ} {c n k : ℕ} {q : Row} {r : Read} → Going f (at d (token plain (c ∷ []) ∷ note n ∷ []) ∷ []) h t bare 0 0 → T (solid (c ∷ [])) → eqb n 0 ≡ false → eqb n literal-row ≡ false → k ≤ 3 → wordOf h ≡ c → h′ ≡ passed (f .text) h → q ≡ rowOver n (many (startOf h) (endOf h) 0 (some (wordOf h))) 0 → r ≡ Done (nodeOf q) (later h′) → t′ ≡ putRow t (h′ .rows) q → Answers f k r t′
+pub word-row : {f : Phrase} {d : Counts} {h h′ : Here} {t t′ : List ℕ} {c n k : ℕ} {q : Row} {r : Read} → Going f (at d (token plain (c ∷ []) ∷ note n ∷ []) ∷ []) h t bare 0 0 → T (solid (c ∷ [])) → eqb n 0 ≡ false → eqb n literal-row ≡ false → k ≤ 3 → wordOf h ≡ c → h′ ≡ passed (f .text) h → q ≡ rowOver n (many (startOf h) (endOf h) 0 (some (wordOf h))) 0 → r ≡ Done (nodeOf q) (later h′) → t′ ≡ putOver t h′ q (f .from .rows) → Answers f k r t′
 unfolding kept
 word-row g o z l i m p e u w = finished (takes g o (is-word m) tt p) (omega (arith, i)) z l e u w
+
+-- rows are few
+pub rows-small : {s : List ℕ} {h : Here} → Stands s h → h .rows < 300000
+rows-small g = let a = g .few in let b = next-small g in let c = g .short in omega (arith, a, b, c)
 
 -- the measure of a cycle's member: a place, and a level there
 pub falls-on : {s : List ℕ} {z : Here} (n i j t : ℕ) → (70000 - n) * 64 + i ≡ t → n < nextOf z → Stands s z → j < 64 → (70000 - nextOf z) * 64 + j < t

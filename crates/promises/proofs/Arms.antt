@@ -12,7 +12,6 @@ use native.Mathlib.Omega.{arith}
 use Rattle.rows.specs.Kinds as kinds
 use Rattle.tokens.specs.declared.Refusal.{Refusal}
 use Rattle.rows.specs.declared.Row.{Row}
-use Rattle.rows.specs.Rows.{putRow}
 use Rattle.grammar.specs.Words.{open-brace, close-brace, comma, '=>', names}
 use Rattle.grammar.specs.Grammar.{plain, Scope, same, body, Stream, Symbol, phrase, Parts, end, node, Language, one-of}
 use Rattle.grammar.specs.Limits.{Counts, after, inside, kept}
@@ -34,7 +33,7 @@ use Rattle.parser.specs.declared.Limits.{Limits}
 use Rattle.parser.specs.declared.Node.{Node}
 use Rattle.parser.specs.declared.Read.{Read}
 use Rattle.parser.specs.declared.Read.the-variants.{Done, Refused}
-use Rattle.parser.specs.Places.{wordOf, endOf, nextOf, passed, later, unused, nodeOf, plainRow, expected}
+use Rattle.parser.specs.Places.{wordOf, endOf, nextOf, passed, later, unused, nodeOf, putOver, plainRow, expected}
 use Rattle.parser.specs.Counted.{counts, plain as plainly}
 use Rattle.parser.specs.Going.{language, Stands, Tally, many, lone, withNode, Phrase, Going, Stopped, Answers}
 use Rattle.parser.proofs.Standing.{next-small, is-word, the-word}
@@ -49,7 +48,7 @@ use Rattle.promises.specs.Promises.{the, Partly, Perhaps, Closed, Guarde
 use Rattle.promises.proofs.Alternatives.{brace-less, arms-on, arms-off, arm-any, arm-block-on, arm-expr-on, arm-off, arm-next-on, arm-next-off, arm-comma-on, arm-comma-off, guard-on, guard-off}
 use Rattle.promises.proofs.Partly.{partly, partly-of, partly-stops, partly-stopped}
 use Rattle.promises.proofs.Answered.{Further, partly-as, done-is}
-use Rattle.promises.proofs.Blocks.{closes-row, leaves-row}
+use Rattle.promises.proofs.Blocks.{closes-row, closed-by, leaves-row}
 use Rattle.promises.proofs.Heads.{reads-it, refuses-it, reads-partly, counts-behind}
 
 -- what a phrase leaves that stands last in another, which stands alone in a third
@@ -102,7 +101,7 @@ module _ (s : List ℕ) {d₀ d d′ : Counts} {n₀ n i j : ℕ} {ss : List Sym
 
 module _ {f : Phrase} {d : Counts} {ks : List Left} {h : Here} {t : List ℕ} {y : Tally} {v k : ℕ} where
   pub stands-alone : {d′ : Counts} {ss : List Symbol} {o : Scope} {n : ℕ} → one-of n rest-kinds ≡ false → inside o d ≡ d′ → Going f (at d (phrase o n ∷ ss) ∷ ks) h t y v k → Going f (at d′ (phrase same n ∷ []) ∷ at d ss ∷ ks) h t y v k
-  stands-alone p e g = record { draft = g .draft; opened = asks-alone (f .text) p e (g .opened); stands = g .stands; holds = g .holds; part = g .part; rows = g .rows; stored = g .stored; began = g .began; counted = g .counted; spares = g .spares }
+  stands-alone p e g = record { draft = g .draft; opened = asks-alone (f .text) p e (g .opened); stands = g .stands; holds = g .holds; part = g .part; rows = g .rows; stored = g .stored; sized = g .sized; began = g .began; counted = g .counted; spares = g .spares }
 
   -- no arm more
   pub arms-none : {ss : List Symbol} → (T (one-of (wordOf h) names) → ⊥) → Going f (at d (a ARMS ∷ ss) ∷ ks) h t y v k → Going f (at d ss ∷ ks) h t y v k
@@ -111,12 +110,12 @@ module _ {f : Phrase} {d : Counts} {ks : List Left} {h : Here} {t : List ℕ} {y
       let x : Draft = g .draft in
       let nil : with-phrase blank x ≡ x = ap (λ (r : List Written). record { rows = r; items = x .items ++ []; part = x .part }) (append-nil (x .rows)) ∙ ap (λ (i : List Item). record { rows = x .rows; items = i; part = x .part }) (append-nil (x .items)) in
       let S = source (f .text) in
-      record { draft = x; opened = subst (λ (z : Draft). Open S language (f .counts) same (f .kind) (f .from .place) (at d ss ∷ ks) (h .place) z) nil (reads S language refl (finish S language (pop S language (start S language [] (picks-else (f .text) (g .stands) arms-off n)))) (g .opened)); stands = g .stands; holds = g .holds; part = g .part; rows = g .rows; stored = g .stored; began = g .began; counted = g .counted; spares = g .spares }
+      record { draft = x; opened = subst (λ (z : Draft). Open S language (f .counts) same (f .kind) (f .from .place) (at d ss ∷ ks) (h .place) z) nil (reads S language refl (finish S language (pop S language (start S language [] (picks-else (f .text) (g .stands) arms-off n)))) (g .opened)); stands = g .stands; holds = g .holds; part = g .part; rows = g .rows; stored = g .stored; sized = g .sized; began = g .began; counted = g .counted; spares = g .spares }
 
   module _ (w : T (one-of (wordOf h) names)) {h′ : Here} {t′ : List ℕ} {m : Node} {j : ℕ} where
     -- an arm, and others may follow
     pub arm-more : Going f (at d (a ARMS ∷ []) ∷ ks) h t y v k → Around (next-phrase f d ARM h t) (at d (a ARMS ∷ []) ∷ []) h′ t′ m j → Going f (at d (a ARMS ∷ []) ∷ ks) h′ t′ (withNode y m) v (k + j)
-    arm-more g u = goes-added g (adds {b = u .draft} {m = m} g (u .leaves) (u .rows) (u .stored) (u .counted) (u .spares)) (follows (source (f .text)) language refl refl (picks-at (f .text) (g .stands) arms-on w) (u .opened) (g .opened)) (u .stands)
+    arm-more g u = goes-added g (adds {b = u .draft} {m = m} g (u .leaves) (u .rows) (u .stored) (u .sized) (u .counted) (u .spares)) (follows (source (f .text)) language refl refl (picks-at (f .text) (g .stands) arms-on w) (u .opened) (g .opened)) (u .stands)
 
     -- an arm, and none may follow
     pub arm-last : {ss : List Symbol} → Going f (at d (a ARMS ∷ ss) ∷ ks) h t y v k → Around (next-phrase f d ARM h t) [] h′ t′ m j → Going f (at d ss ∷ ks) h′ t′ (withNode y m) v (k + j)
@@ -195,18 +194,18 @@ module _ {s : List ℕ} {l : Limits} {start c : ℕ} {h₀ h : Here} {t₀ t : L
   armed-so : {f : Phrase} {d : Counts} {e : ℕ} {w : Option ℕ} → f .text ≡ s → inside body d ≡ counts l → Going f (at d (behind ARMS ∷ closes close-brace ∷ row kinds.MATCH ∷ []) ∷ []) h₀ t₀ (many start e 1 w) 0 1 → Arming f (counts l) (at d (closes close-brace ∷ row kinds.MATCH ∷ []) ∷ []) start c h t
   armed-so {f} {d} q z g = b .arming f (at d (closes close-brace ∷ row kinds.MATCH ∷ []) ∷ []) start q (record { end = _; sign = _; going = stands-alone refl z g })
 
-  pub arms-end : {v : Row} {r : Read} {t′ : List ℕ} → (T (one-of (wordOf h) names) → ⊥) → v ≡ plainRow kinds.MATCH start (endOf h) c → Closed s h t close-brace v r t′ → Matched s h₀ t₀ l start r t′
-  arms-end {v} {r} {t′} n o k f d e w q z g = leaves-row r (omega arith) (closes-row (out (arms-none n (armed-so q z g .going))) refl refl o (subst (λ (y : List ℕ). Closed y h t close-brace v r t′) (sym q) k))
+  pub arms-end : {since : ℕ} {v : Row} {r : Read} {t′ : List ℕ} → (T (one-of (wordOf h) names) → ⊥) → v ≡ plainRow kinds.MATCH start (endOf h) c → Closed s h t close-brace v since r t′ → Matched s h₀ t₀ l start since r t′
+  arms-end {r = r} n o k f d e w q i z g = leaves-row r (omega arith) (closes-row (out (arms-none n (armed-so q z g .going))) refl refl o (closed-by q i k))
 
   module _ (w : T (one-of (wordOf h) names)) {r : Arm} {t′ : List ℕ} (u : ArmOf s (counts l) h t r t′) where
-    pub arms-fail : {x : Refusal} {r′ : Read} → r ≡ Arm.Refused x → r′ ≡ Refused x → Matched s h₀ t₀ l start r′ t′
+    pub arms-fail : (since : ℕ) {x : Refusal} {r′ : Read} → r ≡ Arm.Refused x → r′ ≡ Refused x → Matched s h₀ t₀ l start since r′ t′
     unfolding inside
-    arms-fail x o f d e i q z g = let y = armed-so q z g .going in stopped o (refuses-in y refl (refuses-in (begins-on arms-on (y .stands) w) refl (armed (arm-of q u) x)))
+    arms-fail since x o f d e i q j z g = let y = armed-so q z g .going in stopped o (refuses-in y refl (refuses-in (begins-on arms-on (y .stands) w) refl (armed (arm-of q u) x)))
 
-    pub arms-last : {z : Here} {v : Row} {r₁ : Read} {t₁ : List ℕ} → r ≡ Arm.Last z → v ≡ plainRow kinds.MATCH start (endOf z) (c + 1) → Closed s z t′ close-brace v r₁ t₁ → Matched s h₀ t₀ l start r₁ t₁
-    arms-last {z = j} {v = v} {r₁ = r₁} {t₁ = t₁} x o k f d e i q z g =
+    pub arms-last : {since : ℕ} {z : Here} {v : Row} {r₁ : Read} {t₁ : List ℕ} → r ≡ Arm.Last z → v ≡ plainRow kinds.MATCH start (endOf z) (c + 1) → Closed s z t′ close-brace v since r₁ t₁ → Matched s h₀ t₀ l start since r₁ t₁
+    arms-last {z = j} {v = v} {r₁ = r₁} {t₁ = t₁} x o k f d e i q n z g =
         let m : Armed (the (f .text) (counts l) ARM h t) [] j t′ = armed (arm-of q u) x in
-        leaves-row r₁ (omega arith) (closes-row (fewer 1 (omega arith) (out (arm-last w (armed-so q z g .going) (m .around)))) refl refl o (subst (λ (y : List ℕ). Closed y j t′ close-brace v r₁ t₁) (sym q) k))
+        leaves-row r₁ (omega arith) (closes-row (fewer 1 (omega arith) (out (arm-last w (armed-so q z g .going) (m .around)))) refl refl o (closed-by q n k))
 
 -- perhaps `if expr`
 pub guard-none : (l : Limits) {s : List ℕ} {h : Here} {t : List ℕ} {r : Read} → wordOf h ≢ 69 → r ≡ Done (partOf 0) h → Guarded s h t l r t
@@ -240,11 +239,11 @@ body-fails l n e f d ks y v k q z g = partly-stops e (refuses-off arm-off n g)
 
 -- one arm
 around-of : {f : Phrase} {ks : List Left} {h : Here} {t : List ℕ} {a b c v k : ℕ} → Going f ks h t (lone a b c) v k → Around f ks h t (record { kind = a; start = b; end = c; children = 0 }) k
-around-of g = record { draft = g .draft; opened = g .opened; stands = g .stands; leaves = (g .holds .0, ap children-of (g .holds .1), g .holds .2, g .holds .3, g .holds .4); rows = g .rows; stored = g .stored; counted = g .counted; spares = g .spares }
+around-of g = record { draft = g .draft; opened = g .opened; stands = g .stands; leaves = (g .holds .0, ap children-of (g .holds .1), g .holds .2, g .holds .3, g .holds .4); rows = g .rows; stored = g .stored; sized = g .sized; counted = g .counted; spares = g .spares }
 
 -- behind its comma
 around-last : {f : Phrase} {ks : List Left} {h : Here} {t : List ℕ} {m : Node} {k n : ℕ} {o : Scope} {d d′ d″ : Counts} → d ≡ d″ → Around f (at d (phrase o n ∷ []) ∷ at d′ [] ∷ ks) h t m (k + 4) → Around f (at d″ (phrase o n ∷ []) ∷ ks) h t m k
-around-last {f} {ks} {h} {t} {n = n} {o = o} e g = record { draft = g .draft; opened = subst (λ (x : Counts). Open (source (f .text)) language (f .counts) same (f .kind) (f .from .place) (at x (phrase o n ∷ []) ∷ ks) (h .place) (g .draft)) e (tail (source (f .text)) language (g .opened)); stands = g .stands; leaves = g .leaves; rows = g .rows; stored = g .stored; counted = g .counted; spares = let x = g .spares in omega (arith, x) }
+around-last {f} {ks} {h} {t} {n = n} {o = o} e g = record { draft = g .draft; opened = subst (λ (x : Counts). Open (source (f .text)) language (f .counts) same (f .kind) (f .from .place) (at x (phrase o n ∷ []) ∷ ks) (h .place) (g .draft)) e (tail (source (f .text)) language (g .opened)); stands = g .stands; leaves = g .leaves; rows = g .rows; stored = g .stored; sized = g .sized; counted = g .counted; spares = let x = g .spares in omega (arith, x) }
 
 -- behind a block a comma may stand; behind an expr it must, where another arm follows
 module _ {f : Phrase} {h : Here} {t : List ℕ} {j x e v : ℕ} (begin : ℕ) {r : Arm} (u : r ≡ armEnd (f .text) h begin) where
@@ -297,7 +296,7 @@ module _ (l : Limits) {s : List ℕ} {h : Here} {t : List ℕ} (g : Stands s h) 
           pub arm-fails : {x : Refusal} {v : Arm} → r₄ ≡ Refused x → v ≡ lastArm r₄ → ArmOf s (counts l) h t v t₄
           arm-fails x i = arm-stops i x (partly-stopped arm x)
 
-          module _ {m₄ : Node} {h₄ : Here} (e₄ : r₄ ≡ Done m₄ h₄) {v : Row} (i : v ≡ record { kind = kinds.ARM; start = m₁ .start; end = m₄ .end; children = m₂ .children + 2; value = m₂ .children; detail = 0 }) {r₅ : Read} {t₅ : List ℕ} (u₅ : r₅ ≡ Done (nodeOf v) (later h₄)) (q : t₅ ≡ putRow t₄ (h₄ .rows) v) {m₅ : Node} {h₅ : Here} (e₅ : r₅ ≡ Done m₅ h₅) where
+          module _ {m₄ : Node} {h₄ : Here} (e₄ : r₄ ≡ Done m₄ h₄) {v : Row} (i : v ≡ record { kind = kinds.ARM; start = m₁ .start; end = m₄ .end; children = m₂ .children + 2; value = m₂ .children; detail = 0 }) {r₅ : Read} {t₅ : List ℕ} (u₅ : r₅ ≡ Done (nodeOf v) (later h₄)) (q : t₅ ≡ putOver t₄ h₄ v (h .rows)) {m₅ : Node} {h₅ : Here} (e₅ : r₅ ≡ Done m₅ h₅) where
             arm-row : {ss : List Symbol} → l .signs ≡ 32 → Going (the s (counts l) ARM h t) (at (after plain (counts l)) (row kinds.ARM ∷ ss) ∷ at (after plain (counts l)) [] ∷ []) h₄ t₄ (many (m₁ .start) (m₄ .end) (1 + m₂ .children + 1) (or-word (arm-guarded .sign) 21)) (m₂ .children) 6 → Going (the s (counts l) ARM h t) (at (counts l) ss ∷ at (counts l) [] ∷ []) h₅ t₅ (lone (v .kind) (v .start) (v .end)) 0 1
             arm-row {ss} o x = subst (λ (d : Counts). Going (the s (counts l) ARM h t) (at d ss ∷ at d [] ∷ []) h₅ t₅ (lone (v .kind) (v .start) (v .end)) 0 1) (counts-same l o) (writes (fewer 2 (omega arith) x) refl refl (i ∙ ap (λ (c : ℕ). record { kind = kinds.ARM; start = m₁ .start; end = m₄ .end; children = c; value = m₂ .children; detail = 0 }) (omega arith)) (sym (done-is u₅ e₅ .1)) q)
 

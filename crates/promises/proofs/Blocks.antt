@@ -11,7 +11,6 @@ use native.Mathlib.Omega.{arith}
 use Rattle.rows.specs.Kinds as kinds
 use Rattle.tokens.specs.declared.Refusal.{Refusal}
 use Rattle.rows.specs.declared.Row.{Row}
-use Rattle.rows.specs.Rows.{putRow}
 use Rattle.grammar.specs.Words.{open-brace, close-brace, semicolon, '=', 'import', 'let', four-words}
 use Rattle.grammar.specs.Grammar.{plain, opens-bracket, closes-bracket, Symbol, one-of}
 use Rattle.grammar.specs.Limits.{Counts, after, inside, kept}
@@ -26,17 +25,18 @@ use Rattle.parser.specs.declared.Node.{Node}
 use Rattle.parser.specs.declared.Read.{Read}
 use Rattle.parser.specs.declared.Read.the-variants.{Done, Refused}
 use Rattle.parser.specs.declared.Stmt.{Stmt}
-use Rattle.parser.specs.Places.{wordOf, startOf, endOf, nextOf, passed, later, nodeOf, past, unused, unusedAt, expected, opening, took}
+use Rattle.parser.specs.Places.{wordOf, startOf, endOf, nextOf, passed, later, nodeOf, putOver, past, unused, unusedAt, expected, opening, took}
 use Rattle.parser.specs.Counted.{counts, opened, plain as plainly}
 use Rattle.parser.specs.Going.{Stands, lone, many, withToken, rowOver, Phrase, Going, Stopped, Answers}
 use Rattle.parser.proofs.Standing.{here-rows, next-small, past-word, is-word, the-word, is-taken}
 use Rattle.parser.proofs.Going.{at, takes, out, last, alone, none-of, parts, writes, reads-one, ends, refuses-word, refuses-in, whole-of, stopped-of, done, stopped, relays, fewer}
 use Rattle.parser.proofs.Picks.{On, begins-any, into-on, into-off, refuses-off}
+use Rattle.parser.proofs.Sides.{none-yet}
 use Rattle.parser.proofs.Steps.{opening-done, counts-plain, counts-same, counts-opened, alike-counts, expects, misses, opens-on, opens-off}
 use Rattle.promises.specs.Firsts.{exprFirsts, statementFirsts, endedBy}
 use Rattle.promises.specs.Promises.{the, Anyhow, Partly, Closed, Perhaps, Typing, Stated, Ended, StatementIs, OneStatement, Statement, BeyondStatement, Beyond}
 use Rattle.promises.proofs.Alternatives.{plain-first, block-any, statements-on, statements-off, statement-four-on, statement-expr-on, statement-off, after-four-more-on, after-four-off, after-expr-off, let-any}
-use Rattle.promises.proofs.Answered.{further, of-text}
+use Rattle.promises.proofs.Answered.{further, of-text, put-behind}
 use Rattle.promises.proofs.Partly.{partly-of, partly, partly-stops, stops-answer}
 
 -- past a `;` that is there
@@ -45,7 +45,7 @@ is-past s z b = is-taken (z .step) (semicolon ∷ []) tt (is-word b) (past s z) 
 
 -- a row over a list behind the `}` that closes it
 module _ {f : Phrase} {d : Counts} {ks : List Left} {h : Here} {t : List ℕ} {x e c v k : ℕ} {w : Option ℕ} {ss : List Symbol} {n : ℕ} where
-  pub closes-row : {q : Row} {r : Read} {t′ : List ℕ} → Going f (at d (closes close-brace ∷ row n ∷ ss) ∷ ks) h t (many x e c w) v k → eqb n 0 ≡ false → eqb n literal-row ≡ false → q ≡ rowOver n (withToken (many x e c w) h) v → Closed (f .text) h t close-brace q r t′ → Partly f r t′ (λ m h′. Going f (at (after closes-bracket d) ss ∷ ks) h′ t′ (lone (m .kind) (m .start) (m .end)) 0 k)
+  pub closes-row : {q : Row} {r : Read} {t′ : List ℕ} → Going f (at d (closes close-brace ∷ row n ∷ ss) ∷ ks) h t (many x e c w) v k → eqb n 0 ≡ false → eqb n literal-row ≡ false → q ≡ rowOver n (withToken (many x e c w) h) v → Closed (f .text) h t close-brace q (f .from .rows) r t′ → Partly f r t′ (λ m h′. Going f (at (after closes-bracket d) ss ∷ ks) h′ t′ (lone (m .kind) (m .start) (m .end)) 0 k)
   unfolding kept
   closes-row {q} {r} {t′} g z l i u = go (eqb (wordOf h) close-brace) refl
     where
@@ -55,8 +55,7 @@ module _ {f : Phrase} {d : Counts} {ks : List Left} {h : Here} {t : List ℕ} {x
       closed : wordOf h ≡ close-brace → Partly f r t′ G
       closed m =
           let b = u .closed m in
-          let rows : h .rows ≡ (passed (f .text) h) .rows = sym (here-rows (f .text) (nextOf h) (h .rows)) in
-          partly (b .0) (writes (fewer (k + 1) (omega arith) (takes g tt (is-word m) tt refl)) z l i refl (b .1 ∙ ap (λ (y : ℕ). putRow t y q) rows))
+          partly (b .0) (writes (fewer (k + 1) (omega arith) (takes g tt (is-word m) tt refl)) z l i refl (put-behind (f .text) h t q (f .from .rows) (b .1)))
 
       missed : wordOf h ≢ close-brace → Partly f r t′ G
       missed m = let b = u .other m in partly-stops (b .0) (subst (λ (y : List ℕ). Stopped f (unusedAt h) y) (sym (b .1)) (refuses-word g (λ y. m (the-word y))))
@@ -64,6 +63,10 @@ module _ {f : Phrase} {d : Counts} {ks : List Left} {h : Here} {t : List ℕ} {x
       go : (b : Bool) → eqb (wordOf h) close-brace ≡ b → Partly f r t′ G
       go true y = closed (eqb→eq (wordOf h) close-brace (subst T (sym y) tt))
       go false y = missed (λ m. subst T (ap (λ (b : ℕ). eqb (wordOf h) b) m ∙ y) (eqb-refl (wordOf h)))
+
+-- the same of another name for the source and for where the rows began
+pub closed-by : {x s : List ℕ} {n since : ℕ} {h : Here} {t : List ℕ} {w : ℕ} {q : Row} {r : Read} {t′ : List ℕ} → x ≡ s → n ≡ since → Closed s h t w q since r t′ → Closed x h t w q n r t′
+closed-by {x} {s} {n} {since} {h} {t} {w} {q} {r} {t′} e i u = subst (λ (y : List ℕ). Closed y h t w q n r t′) (sym e) (subst (λ (k : ℕ). Closed s h t w q k r t′) (sym i) u)
 
 -- a part that leaves one row and nothing else of its phrase
 pub leaves-row : {f : Phrase} {d : Counts} {k : ℕ} {t : List ℕ} (r : Read) → 1 ≤ k → Partly f r t (λ m h. Going f (at d [] ∷ []) h t (lone (m .kind) (m .start) (m .end)) 0 k) → Answers f 1 r t
@@ -200,8 +203,8 @@ module _ (s : List ℕ) (h : Here) {r : Stmt} {z : Here} (v : BeyondStatement s 
 abbrev pub blockRow : ℕ → ℕ → ℕ → ℕ → Row
 blockRow x e c v = record { kind = kinds.BLOCK; start = x; end = e; children = c; value = v; detail = 0 }
 
-closes-block : {f : Phrase} {s : List ℕ} {d : Counts} {ks : List Left} {h : Here} {t : List ℕ} {x e c v k : ℕ} {w : Option ℕ} {q : Row} {r : Read} {t′ : List ℕ} → f .text ≡ s → Going f (at d (closes close-brace ∷ row kinds.BLOCK ∷ []) ∷ ks) h t (many x e c w) v k → q ≡ blockRow x (endOf h) c v → Closed s h t close-brace q r t′ → Partly f r t′ (λ m h′. Going f (at (after closes-bracket d) [] ∷ ks) h′ t′ (lone (m .kind) (m .start) (m .end)) 0 k)
-closes-block {h = h} {t = t} {q = q} {r = r} {t′ = t′} p g i u = closes-row g refl refl i (subst (λ (z : List ℕ). Closed z h t close-brace q r t′) (sym p) u)
+closes-block : {f : Phrase} {s : List ℕ} {since : ℕ} {d : Counts} {ks : List Left} {h : Here} {t : List ℕ} {x e c v k : ℕ} {w : Option ℕ} {q : Row} {r : Read} {t′ : List ℕ} → f .text ≡ s → f .from .rows ≡ since → Going f (at d (closes close-brace ∷ row kinds.BLOCK ∷ []) ∷ ks) h t (many x e c w) v k → q ≡ blockRow x (endOf h) c v → Closed s h t close-brace q since r t′ → Partly f r t′ (λ m h′. Going f (at (after closes-bracket d) [] ∷ ks) h′ t′ (lone (m .kind) (m .start) (m .end)) 0 k)
+closes-block p n g i u = closes-row g refl refl i (closed-by p n u)
 
 module _ (s : List ℕ) (l : Limits) {start : ℕ} {h₀ : Here} {t₀ : List ℕ} {c n : ℕ} {h : Here} {t : List ℕ} (g : Goes s l 0 0 h₀ t₀ c n h t) where
   module _ (b : T (one-of (wordOf h) statementFirsts)) {r : Stmt} {t′ : List ℕ} (u : Statement s h t l r t′) where
@@ -210,14 +213,14 @@ module _ (s : List ℕ) (l : Limits) {start : ℕ} {h₀ : Here} {t₀ : List �
         let y = g f d _ start k p i (states-none v) in
         partly-stops o (stated q (u f d _ start (y .end) c k (y .sign) p i (begins-next n y b)))
 
-    pub stmts-last : {z : Here} {q : Row} {r′ : Read} {t″ : List ℕ} → r ≡ Stmt.Last z → q ≡ blockRow start (endOf z) (c + 1) 1 → Closed s z t′ close-brace q r′ t″ → Stated s h₀ t₀ l start r′ t″
+    pub stmts-last : {z : Here} {q : Row} {r′ : Read} {t″ : List ℕ} → r ≡ Stmt.Last z → q ≡ blockRow start (endOf z) (c + 1) 1 → Closed s z t′ close-brace q (h₀ .rows) r′ t″ → Stated s h₀ t₀ l start r′ t″
     stmts-last {z} o j x f d ks e k w p i v =
         let y = g f d _ start k p i (states-none v) in
         let m : Ended f d (at d (closes close-brace ∷ row kinds.BLOCK ∷ []) ∷ ks) start c k AFTER-EXPR z t′ × (wordOf z ≢ semicolon) = stated o (u f d _ start (y .end) c k (y .sign) p i (begins-next n y b)) in
-        closes-block p (states-last (m .0) (m .1)) j x
+        closes-block p (none-yet v) (states-last (m .0) (m .1)) j x
 
-  pub stmts-end : {q : Row} {r : Read} {t′ : List ℕ} → (T (one-of (wordOf h) statementFirsts) → ⊥) → q ≡ blockRow start (endOf h) c n → Closed s h t close-brace q r t′ → Stated s h₀ t₀ l start r t′
-  stmts-end b j x f d ks e k w p i v = closes-block p (states-all n (g f d _ start k p i (states-none v)) b) j x
+  pub stmts-end : {q : Row} {r : Read} {t′ : List ℕ} → (T (one-of (wordOf h) statementFirsts) → ⊥) → q ≡ blockRow start (endOf h) c n → Closed s h t close-brace q (h₀ .rows) r t′ → Stated s h₀ t₀ l start r t′
+  stmts-end b j x f d ks e k w p i v = closes-block p (none-yet v) (states-all n (g f d _ start k p i (states-none v)) b) j x
 
 -- a statement that is a phrase with its `;`
 module _ (s : List ℕ) (l : Limits) (h : Here) (t : List ℕ) {n i : ℕ} {t′ : List ℕ} where
@@ -371,7 +374,7 @@ module _ (s : List ℕ) (l : Limits) (h : Here) (t : List ℕ) (g : Stands s h) 
                     pub let-unended : {x : Refusal} → r₅ ≡ Refused x → Answers Let 1 r₅ t₄
                     let-unended i = stopped i (misses semicolon let-valued tt u₅ i)
 
-                    pub let-read : {m₅ : Node} {h₆ : Here} {y : Row} {r : Read} {t′ : List ℕ} → r₅ ≡ Done m₅ h₆ → y ≡ letRow (startOf h) (m₅ .end) (m₂ .children) → r ≡ Done (nodeOf y) (later h₆) → t′ ≡ putRow t₄ (h₆ .rows) y → Answers Let 1 r t′
+                    pub let-read : {m₅ : Node} {h₆ : Here} {y : Row} {r : Read} {t′ : List ℕ} → r₅ ≡ Done m₅ h₆ → y ≡ letRow (startOf h) (m₅ .end) (m₂ .children) → r ≡ Done (nodeOf y) (later h₆) → t′ ≡ putOver t₄ h₆ y (h .rows) → Answers Let 1 r t′
                     let-read {m₅} i j o p =
                         let n : 1 + m₂ .children + 1 ≡ m₂ .children + 2 = omega arith in
                         done o (ends (fewer 1 (omega arith) (out (writes {k = 15} (expects semicolon let-valued tt u₅ i) refl refl (j ∙ ap (λ (c : ℕ). record { kind = kinds.LET; start = startOf h; end = m₅ .end; children = c; value = m₂ .children; detail = 0 }) (sym n)) refl p))) refl refl refl)

@@ -10,7 +10,6 @@ use native.Mathlib.Omega.{arith}
 use Rattle.rows.specs.Kinds as kinds
 use Rattle.tokens.specs.declared.Refusal.{Refusal}
 use Rattle.rows.specs.declared.Row.{Row}
-use Rattle.rows.specs.Rows.{putRow}
 use Rattle.grammar.specs.Words.{':', '=', semicolon, filter-words}
 use Rattle.grammar.specs.Grammar.{Symbol, token, plain, one-of}
 use Rattle.grammar.specs.Limits.{after, inside, kept}
@@ -23,7 +22,7 @@ use Rattle.parser.specs.declared.Limits.{Limits}
 use Rattle.parser.specs.declared.Node.{Node}
 use Rattle.parser.specs.declared.Read.{Read}
 use Rattle.parser.specs.declared.Read.the-variants.{Done, Refused}
-use Rattle.parser.specs.Places.{wordOf, startOf, endOf, passed, later, unused, nodeOf, plainRow, expected}
+use Rattle.parser.specs.Places.{wordOf, startOf, endOf, passed, later, unused, nodeOf, putOver, plainRow, expected}
 use Rattle.parser.specs.Counted.{counts, plain as plainly}
 use Rattle.parser.specs.Going.{Stands, many, Phrase, Going, Answers}
 use Rattle.parser.proofs.Standing.{solid, is-word}
@@ -136,7 +135,7 @@ module _ (s : List ℕ) (l : Limits) (i : Here) (t₀ : List ℕ) (g : Stands s 
                   pub const-unended : {e : Refusal} → r₆ ≡ Refused e → Answers Declared 1 r₆ t₅
                   const-unended e = stopped e (misses 47 const-value tt q₆ e)
 
-                  pub const-read : {n₆ : Node} {h₆ : Here} {x : Row} {r : Read} {t : List ℕ} → r₆ ≡ Done n₆ h₆ → x ≡ plainRow kinds.CONST (startOf i) (n₆ .end) 3 → (r ≡ Done (nodeOf x) (later h₆)) × (t ≡ putRow t₅ (h₆ .rows) x) → Answers Declared 1 r t
+                  pub const-read : {n₆ : Node} {h₆ : Here} {x : Row} {r : Read} {t : List ℕ} → r₆ ≡ Done n₆ h₆ → x ≡ plainRow kinds.CONST (startOf i) (n₆ .end) 3 → (r ≡ Done (nodeOf x) (later h₆)) × (t ≡ putOver t₅ h₆ x (i .rows)) → Answers Declared 1 r t
                   unfolding after
                   const-read e₆ e p = done (p .0) (ends (out (writes (fewer 2 (omega arith) (expects 47 const-value tt q₆ e₆)) refl refl e refl (p .1))) refl refl refl)
 
@@ -185,7 +184,7 @@ module _ (s : List ℕ) (l : Limits) (i : Here) (t₀ : List ℕ) (g : Stands s 
                 unfolding inside
                 fn-no-block e = relays (fn-typed .going) refl u₄ e
 
-                pub fn-read : {n₄ : Node} {h₄ : Here} {x : Row} {r : Read} {t : List ℕ} → r₄ ≡ Done n₄ h₄ → x ≡ fnRow (startOf i) (n₄ .end) (n₂ .children) (n₃ .children) → (r ≡ Done (nodeOf x) (later h₄)) × (t ≡ putRow t₄ (h₄ .rows) x) → Answers Declared 1 r t
+                pub fn-read : {n₄ : Node} {h₄ : Here} {x : Row} {r : Read} {t : List ℕ} → r₄ ≡ Done n₄ h₄ → x ≡ fnRow (startOf i) (n₄ .end) (n₂ .children) (n₃ .children) → (r ≡ Done (nodeOf x) (later h₄)) × (t ≡ putOver t₄ h₄ x (i .rows)) → Answers Declared 1 r t
                 unfolding inside
                 fn-read {n₄} e₄ e p = done (p .0) (ends (out (writes (fewer 2 (omega arith) (reads-one (fn-typed .going) refl refl (whole-of u₄ e₄))) refl refl (e ∙ ap (λ (k : ℕ). record { kind = kinds.FN; start = startOf i; end = n₄ .end; children = k; value = n₃ .children; detail = 0 }) (omega arith)) refl (p .1))) refl refl refl)
 
@@ -211,7 +210,7 @@ module _ (s : List ℕ) (l : Limits) (i : Here) (t₀ : List ℕ) (g : Stands s 
             unfolding inside
             filter-no-block e = relays filter-listed refl u₃ e
 
-            pub filter-read : {n₃ : Node} {h₃ : Here} {x : ℕ} {r : Read} {t : List ℕ} → r₃ ≡ Done n₃ h₃ → x ≡ detail-for kinds.FILTER (wordOf i) → (r ≡ Done (nodeOf (filterRow (startOf i) (n₃ .end) (n₂ .children) x)) (later h₃)) × (t ≡ putRow t₃ (h₃ .rows) (filterRow (startOf i) (n₃ .end) (n₂ .children) x)) → Answers Declared 1 r t
+            pub filter-read : {n₃ : Node} {h₃ : Here} {x : ℕ} {r : Read} {t : List ℕ} → r₃ ≡ Done n₃ h₃ → x ≡ detail-for kinds.FILTER (wordOf i) → (r ≡ Done (nodeOf (filterRow (startOf i) (n₃ .end) (n₂ .children) x)) (later h₃)) × (t ≡ putOver t₃ h₃ (filterRow (startOf i) (n₃ .end) (n₂ .children) x) (i .rows)) → Answers Declared 1 r t
             unfolding inside
             filter-read {n₃} {x = x} e₃ e p = done (p .0) (ends (out (writes (fewer 2 (omega arith) (reads-one filter-listed refl refl (whole-of u₃ e₃))) refl refl (ap (filterRow (startOf i) (n₃ .end) (n₂ .children)) e ∙ ap (λ (k : ℕ). record { kind = kinds.FILTER; start = startOf i; end = n₃ .end; children = k; value = 0; detail = detail-for kinds.FILTER (wordOf i) }) (omega arith)) refl (p .1))) refl refl refl)
 
@@ -229,7 +228,7 @@ module _ (s : List ℕ) (l : Limits) (i : Here) (t₀ : List ℕ) (g : Stands s 
         unfolding inside
         test-no-block e = relays test-named refl u₂ e
 
-        pub test-read : {n₂ : Node} {h₂ : Here} {x : Row} {r : Read} {t : List ℕ} → r₂ ≡ Done n₂ h₂ → x ≡ plainRow kinds.TEST (startOf i) (n₂ .end) 2 → (r ≡ Done (nodeOf x) (later h₂)) × (t ≡ putRow t₂ (h₂ .rows) x) → Answers Declared 1 r t
+        pub test-read : {n₂ : Node} {h₂ : Here} {x : Row} {r : Read} {t : List ℕ} → r₂ ≡ Done n₂ h₂ → x ≡ plainRow kinds.TEST (startOf i) (n₂ .end) 2 → (r ≡ Done (nodeOf x) (later h₂)) × (t ≡ putOver t₂ h₂ x (i .rows)) → Answers Declared 1 r t
         unfolding inside
         test-read e₂ e p = done (p .0) (ends (out (writes (fewer 2 (omega arith) (reads-one test-named refl refl (whole-of u₂ e₂))) refl refl e refl (p .1))) refl refl refl)
 

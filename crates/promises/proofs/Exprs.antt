@@ -10,7 +10,6 @@ use native.Mathlib.Omega.{arith}
 use Rattle.rows.specs.Kinds as kinds
 use Rattle.tokens.specs.declared.Refusal.{Refusal}
 use Rattle.rows.specs.declared.Row.{Row}
-use Rattle.rows.specs.Rows.{putRow}
 use Rattle.grammar.specs.Words.{'||', '&&', compare-signs, sum-signs, product-signs, assign-signs, return-words}
 use Rattle.grammar.specs.Grammar.{plain, is-prefix, Symbol, left-side, one-of}
 use Rattle.grammar.specs.Limits.{Counts, after, inside, kept}
@@ -28,7 +27,7 @@ use Rattle.parser.specs.declared.Limits.{Limits}
 use Rattle.parser.specs.declared.Node.{Node}
 use Rattle.parser.specs.declared.Read.{Read}
 use Rattle.parser.specs.declared.Read.the-variants.{Done, Refused}
-use Rattle.parser.specs.Places.{wordOf, endOf, nextOf, passed, later, under, refusalAt, nodeOf, plainRow}
+use Rattle.parser.specs.Places.{wordOf, endOf, nextOf, passed, later, under, refusalAt, nodeOf, putOver, plainRow}
 use Rattle.parser.specs.Counted.{counts, signed, plain as plainly}
 use Rattle.parser.specs.Going.{language, Stands, Tally, bare, lone, many, withWord, Phrase, Going, Stopped, Answers}
 use Rattle.parser.proofs.Standing.{past-word, is-word, the-word, lexed, lexed-solid}
@@ -134,7 +133,7 @@ module _ (s : List ℕ) (l : Limits) (b : Bool) (h : Here) (t : List ℕ) (g : S
       unfolding inside
       negate-fails e = relays operand-goes (sym (ap counts v)) u e
 
-      pub negate-ends : {m : Node} {h′ : Here} {k : ℕ} {w : Row} {r″ : Read} {t″ : List ℕ} → r′ ≡ Done m h′ → k ≡ signKind (wordOf h) → w ≡ plainRow k (x .start) (m .end) 1 → r″ ≡ Done (nodeOf w) (later h′) → t″ ≡ putRow t′ (h′ .rows) w → Answers Operand 1 r″ t″
+      pub negate-ends : {m : Node} {h′ : Here} {k : ℕ} {w : Row} {r″ : Read} {t″ : List ℕ} → r′ ≡ Done m h′ → k ≡ signKind (wordOf h) → w ≡ plainRow k (x .start) (m .end) 1 → r″ ≡ Done (nodeOf w) (later h′) → t″ ≡ putOver t′ h′ w (h .rows) → Answers Operand 1 r″ t″
       unfolding inside
       negate-ends {m = m} e i w o y =
           let own : (n : ℕ) → Row = λ n. record { kind = signKind (wordOf h); start = x .start; end = m .end; children = 1; value = 0; detail = n } in
@@ -253,7 +252,7 @@ module _ (s : List ℕ) (b : Bool) (k : ℕ) (c : Level k b) where
         unfolding inside
         binop-fails q = relays sign-taken refl u q
 
-        module _ {x : Node} {z : Here} (q : r ≡ Done x z) {r′ : Read} {t″ : List ℕ} (o : r′ ≡ Done (nodeOf (detailRow kinds.BINARY m x (wordOf h))) (later z)) (v : t″ ≡ putRow t′ (z .rows) (detailRow kinds.BINARY m x (wordOf h))) where
+        module _ {x : Node} {z : Here} (q : r ≡ Done x z) {r′ : Read} {t″ : List ℕ} (o : r′ ≡ Done (nodeOf (detailRow kinds.BINARY m x (wordOf h))) (later z)) (v : t″ ≡ putOver t′ z (detailRow kinds.BINARY m x (wordOf h)) (i .rows)) where
           row-joined : Going (the s d n i t₀) (at (counts p) (again k b) ∷ at (j .at-counts) [] ∷ []) (later z) t″ (lone 20 (m .start) (x .end)) 0 5
           unfolding inside
           row-joined = writes (reads-one sign-taken (c .inner) refl (whole-of u q)) refl refl refl refl v
@@ -348,6 +347,6 @@ module _ (s : List ℕ) (l : Limits) (b : Bool) (h : Here) (t : List ℕ) (g : S
           unfolding inside
           expr-fails x = relays side-taken (sym (ap counts i)) v x
 
-          pub expr-assigned : {x : Node} {h′ : Here} {r‴ : Read} {t‴ : List ℕ} → r′ ≡ Done x h′ → r‴ ≡ Done (nodeOf (detailRow kinds.ASSIGN m x (wordOf z))) (later h′) → t‴ ≡ putRow t″ (h′ .rows) (detailRow kinds.ASSIGN m x (wordOf z)) → Answers Expr 1 r‴ t‴
+          pub expr-assigned : {x : Node} {h′ : Here} {r‴ : Read} {t‴ : List ℕ} → r′ ≡ Done x h′ → r‴ ≡ Done (nodeOf (detailRow kinds.ASSIGN m x (wordOf z))) (later h′) → t‴ ≡ putOver t″ h′ (detailRow kinds.ASSIGN m x (wordOf z)) (h .rows) → Answers Expr 1 r‴ t‴
           unfolding inside
           expr-assigned x y w = finished-in (reads-one side-taken (rest-binary b) (sym (ap counts i)) (whole-of v x)) (omega arith) refl refl refl y w

@@ -10,7 +10,6 @@ use native.Mathlib.Omega.{arith}
 use Rattle.rows.specs.Kinds as kinds
 use Rattle.tokens.specs.declared.Refusal.{Refusal}
 use Rattle.rows.specs.declared.Row.{Row}
-use Rattle.rows.specs.Rows.{putRow}
 use Rattle.grammar.specs.Words.{open-brace, close-brace, 'in', four-words}
 use Rattle.grammar.specs.Grammar.{plain, is-head, is-else-if, opens-bracket, body, Scope, Symbol, phrase, one-of}
 use Rattle.grammar.specs.Limits.{zeros, Counts, after, inside, kept}
@@ -23,16 +22,17 @@ use Rattle.parser.specs.declared.Limits.{Limits}
 use Rattle.parser.specs.declared.Node.{Node}
 use Rattle.parser.specs.declared.Read.{Read}
 use Rattle.parser.specs.declared.Read.the-variants.{Done, Refused}
-use Rattle.parser.specs.Places.{wordOf, startOf, endOf, nextOf, passed, later, unused, refusalAt, nodeOf, plainRow, expected, under, opening}
+use Rattle.parser.specs.Places.{wordOf, startOf, endOf, nextOf, passed, later, unused, refusalAt, nodeOf, putOver, plainRow, expected, under, opening}
 use Rattle.parser.specs.Counted.{counts, headed, chained, unchained, opened, plain as plainly, Alike, used}
 use Rattle.parser.specs.Going.{Stands, Tally, bare, many, withNode, rowOver, Phrase, Going, Stopped, Answers}
 use Rattle.parser.proofs.Standing.{solid, past-word, is-word, the-word, lexed, lexed-solid}
 use Rattle.parser.proofs.Going.{at, takes, out, reads-one, refuses-in, refuses-past, whole-of, stopped-of, stopped, fewer}
 use Rattle.parser.proofs.Picks.{On, begins-on, begins-any, into-on, into-off, refuses-off}
+use Rattle.parser.proofs.Sides.{none-yet}
 use Rattle.parser.proofs.Steps.{expected-done, under-done, under-refused, counts-plain, counts-headed, counts-body, counts-chained, counts-chain-body, counts-same, counts-opened, alike-counts, expects, misses, opens-on, opens-off, opening-done, few-used, all-used}
 use Rattle.promises.specs.Promises.{the, Anyhow, Partly, Headed, afterMatch, Tested, Elsed, Matched, NamedIn}
 use Rattle.promises.proofs.Alternatives.{four-if-on, four-match-on, four-while-on, four-for-on, else-on, else-off, elses-block-on, elses-off, else-if-any, else-if-is}
-use Rattle.promises.proofs.Answered.{further, not-both, of-text, not-first, finished}
+use Rattle.promises.proofs.Answered.{further, not-both, of-text, not-first, put-since, finished}
 use Rattle.promises.proofs.Partly.{partly, partly-of, stops-answer, partly-stops}
 
 -- a phrase in it, by the answer of its reader
@@ -200,7 +200,7 @@ module _ {f : Phrase} {s : List ℕ} {l : Limits} {n : ℕ} {h : Here} {t : List
   pub head-fails : {y : Refusal} → r ≡ Refused y → Answers f 1 r t₁
   head-fails e = stops-answer tested-head e
 
-  pub head-ends : {m : Node} {h₁ : Here} {v : Row} {r₁ : Read} {t₂ : List ℕ} → r ≡ Done m h₁ → eqb n 0 ≡ false → eqb n literal-row ≡ false → v ≡ rowOver n (many x (m .end) (c + 1 + 1) (some (b .sign))) 0 → r₁ ≡ Done (nodeOf v) (later h₁) → t₂ ≡ putRow t₁ (h₁ .rows) v → Answers f 1 r₁ t₂
+  pub head-ends : {m : Node} {h₁ : Here} {v : Row} {r₁ : Read} {t₂ : List ℕ} → r ≡ Done m h₁ → eqb n 0 ≡ false → eqb n literal-row ≡ false → v ≡ rowOver n (many x (m .end) (c + 1 + 1) (some (b .sign))) 0 → r₁ ≡ Done (nodeOf v) (later h₁) → t₂ ≡ putOver t₁ h₁ v (f .from .rows) → Answers f 1 r₁ t₂
   head-ends e = finished (partly-of tested-head e) (omega arith)
 
 -- `for name in`
@@ -275,12 +275,12 @@ module _ {f : Phrase} {s : List ℕ} {l l′ : Limits} {h : Here} {t : List ℕ}
     pub match-fails : {y : Refusal} → r₂ ≡ Refused y → Answers f 1 r₂ t₁
     match-fails e₂ = stopped e₂ (opens-off 40 (headed l) matches tt match-alike opens-arms e₂)
 
-    pub match-ends : {l₃ : Limits} {m₂ : Node} {h₂ : Here} {r : Read} {t₂ : List ℕ} → r₂ ≡ Done m₂ h₂ → l₃ ≡ opened l → Matched s h₂ t₁ l₃ x r t₂ → Answers f 1 r t₂
+    pub match-ends : {l₃ : Limits} {m₂ : Node} {h₂ : Here} {r : Read} {t₂ : List ℕ} → r₂ ≡ Done m₂ h₂ → l₃ ≡ opened l → Matched s h₂ t₁ l₃ x (h .rows) r t₂ → Answers f 1 r t₂
     unfolding after inside
-    match-ends e₂ o v = v f (after opens-bracket (b .at-counts)) _ _ q (ap (after opens-bracket) (b .body-so) ∙ counts-opened l (opening-done s h₁ 40 (l .brackets) u₂ e₂ .1) ∙ ap counts (sym o)) (fewer 1 (omega arith) (opens-on 40 (headed l) matches tt match-alike opens-arms e₂))
+    match-ends e₂ o v = v f (after opens-bracket (b .at-counts)) _ _ q (none-yet (b .going)) (ap (after opens-bracket) (b .body-so) ∙ counts-opened l (opening-done s h₁ 40 (l .brackets) u₂ e₂ .1) ∙ ap counts (sym o)) (fewer 1 (omega arith) (opens-on 40 (headed l) matches tt match-alike opens-arms e₂))
 
 -- no `else`: the `if` ends
-pub else-none : {f : Phrase} {d : Counts} {h : Here} {t : List ℕ} {x e w k : ℕ} {v : Row} {r : Read} {t′ : List ℕ} → Going f (at d (behind ELSE ∷ row kinds.IF ∷ []) ∷ []) h t (many x e 2 (some w)) 0 k → 2 ≤ k → wordOf h ≢ 63 → v ≡ plainRow kinds.IF x e 2 → r ≡ Done (nodeOf v) (later h) → t′ ≡ putRow t (h .rows) v → Answers f 1 r t′
+pub else-none : {f : Phrase} {d : Counts} {h : Here} {t : List ℕ} {x e w k : ℕ} {v : Row} {r : Read} {t′ : List ℕ} → Going f (at d (behind ELSE ∷ row kinds.IF ∷ []) ∷ []) h t (many x e 2 (some w)) 0 k → 2 ≤ k → wordOf h ≢ 63 → v ≡ plainRow kinds.IF x e 2 → r ≡ Done (nodeOf v) (later h) → t′ ≡ putOver t h v (f .from .rows) → Answers f 1 r t′
 else-none g j n v r t = finished (out (into-off else-off refl (λ m. n (the-word m)) g)) j refl refl v r t
 
 -- behind `else`
@@ -290,14 +290,14 @@ else-word l {f} {d} {ss} {ks} {h} {h₁} {t} {x} {i} {c} {w} {v} {k} b z e p g =
     subst (λ (y : Counts). Going f (at y (a ELSE-PART ∷ []) ∷ at d ss ∷ ks) h₁ t (many x (endOf h) c (some w)) v (k + 4)) (ap (after plain) b ∙ counts-same l z) (takes (into-on else-on refl (is-word e) g) tt (is-word e) tt p)
 
 -- the block there
-pub else-fails : (l : Limits) {s : List ℕ} {h : Here} {t : List ℕ} {start : ℕ} {r : Read} → wordOf h ≢ 69 → wordOf h ≢ 40 → r ≡ unused h → Elsed s h t l start r t
-else-fails l i o u f d e w k q g = stopped u (refuses-off elses-off (not-first _ 69 (40 ∷ []) i (not-first _ 40 [] o (λ y. y))) g)
+pub else-fails : (l : Limits) {s : List ℕ} {h : Here} {t : List ℕ} {start since : ℕ} {r : Read} → wordOf h ≢ 69 → wordOf h ≢ 40 → r ≡ unused h → Elsed s h t l start since r t
+else-fails l i o u f d e w k q n g = stopped u (refuses-off elses-off (not-first _ 69 (40 ∷ []) i (not-first _ 40 [] o (λ y. y))) g)
 
-module _ (l : Limits) {s : List ℕ} {h : Here} {t : List ℕ} (i : wordOf h ≡ 40) {start : ℕ} {r : Read} {t₁ : List ℕ} (u : Answers (the s (counts l) BLOCK h t) 1 r t₁) where
-  pub else-block-fails : {y : Refusal} → r ≡ Refused y → Elsed s h t l start r t₁
+module _ (l : Limits) {s : List ℕ} {h : Here} {t : List ℕ} (i : wordOf h ≡ 40) {start since : ℕ} {r : Read} {t₁ : List ℕ} (u : Answers (the s (counts l) BLOCK h t) 1 r t₁) where
+  pub else-block-fails : {y : Refusal} → r ≡ Refused y → Elsed s h t l start since r t₁
   unfolding inside
-  else-block-fails j f d e w k q g = stopped j (refuses-it q refl u (into-on elses-block-on refl (is-word i) g) j)
+  else-block-fails j f d e w k q n g = stopped j (refuses-it q refl u (into-on elses-block-on refl (is-word i) g) j)
 
-  pub else-ends : {m : Node} {j : Here} {v : Row} {r₁ : Read} {t₂ : List ℕ} → r ≡ Done m j → v ≡ plainRow kinds.IF start (m .end) 3 → r₁ ≡ Done (nodeOf v) (later j) → t₂ ≡ putRow t₁ (j .rows) v → Elsed s h t l start r₁ t₂
+  pub else-ends : {m : Node} {j : Here} {v : Row} {r₁ : Read} {t₂ : List ℕ} → r ≡ Done m j → v ≡ plainRow kinds.IF start (m .end) 3 → r₁ ≡ Done (nodeOf v) (later j) → t₂ ≡ putOver t₁ j v since → Elsed s h t l start since r₁ t₂
   unfolding inside
-  else-ends p v o y f d e w k q g = finished (out (out (reads-it q refl u (into-on elses-block-on refl (is-word i) g) refl p))) (omega arith) refl refl v o y
+  else-ends {j = j} p v o y f d e w k q n g = finished (out (out (reads-it q refl u (into-on elses-block-on refl (is-word i) g) refl p))) (omega arith) refl refl v o (put-since _ j _ n y)

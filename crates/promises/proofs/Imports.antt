@@ -11,7 +11,6 @@ use native.Mathlib.Omega.{arith}
 use Rattle.rows.specs.Kinds as kinds
 use Rattle.tokens.specs.declared.Refusal.{Refusal}
 use Rattle.rows.specs.declared.Row.{Row}
-use Rattle.rows.specs.Rows.{putRow}
 use Rattle.grammar.specs.Words.{path-items, open-brace, close-brace, semicolon}
 use Rattle.grammar.specs.Grammar.{plain, opens-bracket, one-of}
 use Rattle.grammar.specs.Limits.{Counts, after, inside, kept}
@@ -24,16 +23,17 @@ use Rattle.parser.specs.declared.Limits.{Limits}
 use Rattle.parser.specs.declared.Node.{Node}
 use Rattle.parser.specs.declared.Read.{Read}
 use Rattle.parser.specs.declared.Read.the-variants.{Done, Refused}
-use Rattle.parser.specs.Places.{wordOf, endOf, nextOf, passed, later, unused, nodeOf, plainRow, expected, opening, startOf}
+use Rattle.parser.specs.Places.{wordOf, endOf, nextOf, passed, later, unused, nodeOf, sizeFrom, putOver, plainRow, expected, opening, startOf}
 use Rattle.parser.specs.Counted.{counts, opened, plain as plainly, Alike}
 use Rattle.parser.specs.Going.{Stands, store, many, Phrase, Going, Whole, Answers}
 use Rattle.parser.proofs.Standing.{here-rows, next-small, past-word, is-word, the-word}
-use Rattle.parser.proofs.Tables.{store-length}
+use Rattle.parser.proofs.Tables.{put-length}
 use Rattle.parser.proofs.Going.{at, takes, out, last, alone, writes, reads-one, ends, refuses-word, done, stopped, whole-of, relays, as-many, fewer, few-rows}
 use Rattle.parser.proofs.Picks.{begins-any, into-on, into-off, refuses-off}
 use Rattle.parser.proofs.Steps.{expected-done, expected-refused, opening-done, opens-on, opens-off, alike-counts, alike-plain, alike-opened, counts-inner}
 use Rattle.parser.proofs.Sides.{Around, encloses, encloses-word, encloses-out, encloses-misses, encloses-ends}
 use Rattle.promises.specs.Promises.{the, Anyhow, wrote, Closed, Grouped}
+use Rattle.promises.proofs.Answered.{put-behind}
 use Rattle.promises.proofs.Alternatives.{import-any, imported-any, importpath-any, importpath-rest-on, importpath-rest-off, importpath-dot-item-on, importpath-dot-group-on, importpath-dot-off, importpaths-any, importpaths-more-on, importpaths-more-off}
 
 -- an answer at limits that were computed
@@ -87,14 +87,14 @@ module _ (s : List ℕ) (i : Here) (t₀ : List ℕ) (l : Limits) where
           let short = k .0 .short in
           (k .0, omega (arith, counted, r), omega (arith, few, n), n, omega (arith, small, short))
 
-      pub path-grouped : {r : Read} {t′ : List ℕ} → Grouped s h′ t l x c r t′ → Answers Path 2 r t′
-      path-grouped u = u Path (after plain (b .at-counts)) (endOf h) (or-word (b .sign) (wordOf h)) refl (alike-plain l (b .alike)) path-behind
+      pub path-grouped : {r : Read} {t′ : List ℕ} → Grouped s h′ t l x c (i .rows) r t′ → Answers Path 2 r t′
+      path-grouped u = u Path (after plain (b .at-counts)) (endOf h) (or-word (b .sign) (wordOf h)) refl refl (alike-plain l (b .alike)) path-behind
 
       -- neither an item nor a group
       pub path-neither : {r : Read} → wordOf h′ ≢ 40 → (T (one-of (wordOf h′) path-items) → ⊥) → r ≡ unused h′ → Answers Path 2 r t
       path-neither n k q = stopped q (refuses-off importpath-dot-off (λ z. elim (or-cases (eqb (wordOf h′) open-brace) (one-of (wordOf h′) path-items) z) [ inl y ↦ n (eqb→eq (wordOf h′) open-brace y) | inr y ↦ k y ]) path-behind)
 
-    pub path-ends : {q : Row} {r : Read} {t′ : List ℕ} → wordOf h ≢ 49 → q ≡ plainRow kinds.IMPORT-PATH x e c → (r ≡ Done (nodeOf q) (later h)) × (t′ ≡ putRow t (h .rows) q) → Answers Path 2 r t′
+    pub path-ends : {q : Row} {r : Read} {t′ : List ℕ} → wordOf h ≢ 49 → q ≡ plainRow kinds.IMPORT-PATH x e c → (r ≡ Done (nodeOf q) (later h)) × (t′ ≡ putOver t h q (i .rows)) → Answers Path 2 r t′
     unfolding inside
     path-ends n o p = done (p .0) (ends (out (writes (out (out (into-off importpath-rest-off refl (λ z. n (the-word z)) (b .going)))) refl refl o refl (p .1))) refl refl refl)
 
@@ -103,16 +103,16 @@ abbrev pub Goes : List ℕ → Limits → ℕ → ℕ → ℕ → Here → List 
 Goes s l x e₀ c₀ h₀ t₀ e c h t = (i : Here) (t′ : List ℕ) → Begun (the s (counts l) IMPORTPATH i t′) l x e₀ c₀ h₀ t₀ → Begun (the s (counts l) IMPORTPATH i t′) l x e c h t
 
 -- Whether the bracket that has to close stands there.
-by-closed : {A : Type 0} {s : List ℕ} {h : Here} {t : List ℕ} {w : ℕ} {q : Row} {r : Read} {t′ : List ℕ} → Closed s h t w q r t′ → (wordOf h ≡ w → r ≡ wrote s h q → t′ ≡ putRow t ((passed s h) .rows) q → A) → (wordOf h ≢ w → (r ≡ unused h) × (t′ ≡ t) → A) → A
-by-closed {A} {s} {h} {t} {w} {q} u f g = go (eqb (wordOf h) w) refl
+by-closed : {A : Type 0} {s : List ℕ} {h : Here} {t : List ℕ} {w : ℕ} {q : Row} {since : ℕ} {r : Read} {t′ : List ℕ} → Closed s h t w q since r t′ → (wordOf h ≡ w → r ≡ wrote s h q → t′ ≡ putOver t (passed s h) q since → A) → (wordOf h ≢ w → (r ≡ unused h) × (t′ ≡ t) → A) → A
+by-closed {A} {s} {h} {t} {w} {q} {since} u f g = go (eqb (wordOf h) w) refl
   where
     go : (b : Bool) → eqb (wordOf h) w ≡ b → A
-    go true e = let k = eqb→eq (wordOf h) w (subst T (sym e) tt) in let z = u .closed k in f k (z .0) (z .1 ∙ ap (λ (n : ℕ). putRow t n q) (sym (here-rows s (nextOf h) (h .rows))))
+    go true e = let k = eqb→eq (wordOf h) w (subst T (sym e) tt) in let z = u .closed k in f k (z .0) (put-behind s h t q since (z .1))
     go false e = let k : wordOf h ≢ w = (λ z. subst T (ap (λ (x : ℕ). eqb (wordOf h) x) z ∙ e) (eqb-refl (wordOf h))) in g k (u .other k)
 
-pub closed-kept : {s : List ℕ} {h : Here} {t : List ℕ} {w : ℕ} {q : Row} {r : Read} {t′ : List ℕ} → Closed s h t w q r t′ → length t′ ≡ length t
+pub closed-kept : {s : List ℕ} {h : Here} {t : List ℕ} {w : ℕ} {q : Row} {since : ℕ} {r : Read} {t′ : List ℕ} → Closed s h t w q since r t′ → length t′ ≡ length t
 unfolding store
-closed-kept {s} {h} {t} {q = q} u = by-closed u (λ k e p. ap length p ∙ store-length t ((passed s h) .rows) (record { kind = q .kind; start = q .start; end = q .end; children = q .children; value = q .value; detail = q .detail } ∷ [])) (λ k e. ap length (e .1))
+closed-kept {s} {h} {t} {q = q} {since} u = by-closed u (λ k e p. ap length p ∙ put-length t ((passed s h) .rows) q (sizeFrom (passed s h) since)) (λ k e. ap length (e .1))
 
 -- A group that was opened: where its next path is to stand.
 pub record Grouping (f : Phrase) (d : Counts) (start children : ℕ) (h : Here) (t : List ℕ) : Type 0 where
@@ -145,7 +145,7 @@ module _ {f : Phrase} {d : Counts} (l : Limits) (k : after opens-bracket d ≡ c
       unfolding inside kept
       group-more {z′} v q = record { end = endOf z; sign = or-word (b .sign) (wordOf z); going = fewer 3 (omega arith) (subst (λ (j : Counts). Going f (at j (a IMPORTPATHS ∷ []) ∷ at (after opens-bracket d) (closes close-brace ∷ []) ∷ at d [] ∷ at (f .counts) (row kinds.IMPORT-PATH ∷ []) ∷ []) z′ t′ (many x (endOf z) (m + 1) (or-word (b .sign) (wordOf z))) 0 9) (counts-inner d) (last (takes (into-on importpaths-more-on refl (is-word v) group-read) tt (is-word v) tt q))) }
 
-      pub group-ends : {q : Row} {r′ : Read} {t″ : List ℕ} → wordOf z ≢ 48 → q ≡ plainRow kinds.IMPORT-PATH x (endOf z) (m + 1) → Closed (f .text) z t′ 41 q r′ t″ → Answers f 2 r′ t″
+      pub group-ends : {q : Row} {r′ : Read} {t″ : List ℕ} → wordOf z ≢ 48 → q ≡ plainRow kinds.IMPORT-PATH x (endOf z) (m + 1) → Closed (f .text) z t′ 41 q (f .from .rows) r′ t″ → Answers f 2 r′ t″
       unfolding inside kept
       group-ends {r′ = r′} {t″ = t″} v j q = by-closed q (λ e g h. done g (ends (out (writes (fewer 3 (omega arith) (out (out (takes ended tt (is-word e) tt refl)))) refl refl j refl h)) refl refl refl)) (λ n g. unwritten g (stopped (g .0) (refuses-word ended (λ j. n (the-word j)))))
         where
@@ -189,8 +189,8 @@ group-starts s h n q p g f =
     (record { stands = k .0; few = omega (arith, f, e); ahead = omega arith }, k .1)
 
 -- A group's promise, of a phrase of its source.
-pub grouped-of : {s : List ℕ} {h : Here} {t : List ℕ} {l : Limits} {x m : ℕ} {r : Read} {t′ : List ℕ} → ((d₀ : Counts) (n : ℕ) (i : Here) (t₀ : List ℕ) (d : Counts) (e : ℕ) (w : Option ℕ) → Alike d l → Going (the s d₀ n i t₀) (at d (a IMPORTPATH-DOT ∷ []) ∷ at d₀ (row kinds.IMPORT-PATH ∷ []) ∷ []) h t (many x e m w) 0 3 → Answers (the s d₀ n i t₀) 2 r t′) → Grouped s h t l x m r t′
-grouped-of {h = h} {t = t} {l = l} {x = x} {m = m} {r = r} {t′ = t′} k f d e w q = subst (λ (y : List ℕ). Alike d l → Going (the y (f .counts) (f .kind) (f .from) (f .table)) (at d (a IMPORTPATH-DOT ∷ []) ∷ at (f .counts) (row kinds.IMPORT-PATH ∷ []) ∷ []) h t (many x e m w) 0 3 → Answers (the y (f .counts) (f .kind) (f .from) (f .table)) 2 r t′) (sym q) (k (f .counts) (f .kind) (f .from) (f .table) d e w)
+pub grouped-of : {s : List ℕ} {h : Here} {t : List ℕ} {l : Limits} {x m since : ℕ} {r : Read} {t′ : List ℕ} → ((d₀ : Counts) (n : ℕ) (i : Here) (t₀ : List ℕ) (d : Counts) (e : ℕ) (w : Option ℕ) → i .rows ≡ since → Alike d l → Going (the s d₀ n i t₀) (at d (a IMPORTPATH-DOT ∷ []) ∷ at d₀ (row kinds.IMPORT-PATH ∷ []) ∷ []) h t (many x e m w) 0 3 → Answers (the s d₀ n i t₀) 2 r t′) → Grouped s h t l x m since r t′
+grouped-of {h = h} {t = t} {l = l} {x = x} {m = m} {since = since} {r = r} {t′ = t′} k f d e w q = subst (λ (y : List ℕ). f .from .rows ≡ since → Alike d l → Going (the y (f .counts) (f .kind) (f .from) (f .table)) (at d (a IMPORTPATH-DOT ∷ []) ∷ at (f .counts) (row kinds.IMPORT-PATH ∷ []) ∷ []) h t (many x e m w) 0 3 → Answers (the y (f .counts) (f .kind) (f .from) (f .table)) 2 r t′) (sym q) (k (f .counts) (f .kind) (f .from) (f .table) d e w)
 
 -- From where the loop over its paths began.
 abbrev pub Gathers : List ℕ → Limits → ℕ → ℕ → Here → List ℕ → ℕ → Here → List ℕ → Type 0
@@ -203,7 +203,7 @@ whole-fewer j q u = record { draft = u .draft; read = u .read; stands = u .stand
 -- An import path and its row; `import`, that and `;`.
 module _ (s : List ℕ) (l : Limits) (i : Here) (t₀ : List ℕ) (g : Stands s i) where
   module _ {r : Read} {t : List ℕ} (u : Answers (the s (counts l) IMPORTPATH i t₀) 2 r t) where
-    pub imported-read : {m : Node} {h : Here} {q : Row} {r′ : Read} {t′ : List ℕ} → r ≡ Done m h → q ≡ plainRow kinds.IMPORT (m .start) (m .end) 1 → (r′ ≡ Done (nodeOf q) (later h)) × (t′ ≡ putRow t (h .rows) q) → Answers (the s (counts l) IMPORTED i t₀) 1 r′ t′
+    pub imported-read : {m : Node} {h : Here} {q : Row} {r′ : Read} {t′ : List ℕ} → r ≡ Done m h → q ≡ plainRow kinds.IMPORT (m .start) (m .end) 1 → (r′ ≡ Done (nodeOf q) (later h)) × (t′ ≡ putOver t h q (i .rows)) → Answers (the s (counts l) IMPORTED i t₀) 1 r′ t′
     unfolding inside
     imported-read e q p = done (p .0) (ends (out (writes (reads-one (begins-any imported-any g) refl refl (whole-of u e)) refl refl q refl (p .1))) refl refl refl)
 

@@ -10,7 +10,6 @@ use native.Mathlib.Decide.{decLe}
 use native.Mathlib.Omega.{arith}
 use native.Mathlib.Nat.{add-zero}
 use Rattle.rows.specs.Kinds as kinds
-use Rattle.rows.specs.Rows.{putRow}
 use Rattle.tokens.specs.declared.Refusal.{Refusal}
 use Rattle.grammar.specs.Grammar.{plain, one-of}
 use Rattle.grammar.specs.Limits.{Counts, after}
@@ -20,7 +19,7 @@ use Rattle.parser.specs.declared.Limits.{Limits}
 use Rattle.parser.specs.declared.Node.{Node}
 use Rattle.parser.specs.declared.Read.{Read}
 use Rattle.parser.specs.declared.Read.the-variants.{Done, Refused}
-use Rattle.parser.specs.Places.{wordOf, nextOf, passed, later, nodeOf}
+use Rattle.parser.specs.Places.{wordOf, nextOf, passed, later, nodeOf, putOver}
 use Rattle.parser.specs.Counted.{counts, plain as plainly}
 use Rattle.parser.specs.Going.{Stands, Answers}
 use Rattle.grammar.proofs.Bools.{or-l, or-r, or-cases}
@@ -122,7 +121,7 @@ module _ (s : List ℕ) (b : Bool) (p : Limits) (level : ℕ) (lo : 1 ≤ level)
     levels-behind = binop-behind s b n (level-of n b (levels-few .0) (levels-few .1)) there sign o
 
     -- what is joined with what stands behind it
-    module _ {r : Read} {t₂ : List ℕ} (u : Answers (the s (counts p) (LEVEL (n + 1) b) h′ t) 1 r t₂) {x : ℕ} (y : x ≡ wordOf h) {r₁ : Read} {t₃ : List ℕ} (ρ : r₁ ≡ joinedRead m x r) (τ : t₃ ≡ joinedTable m x r t₂) where
+    module _ {r : Read} {t₂ : List ℕ} (u : Answers (the s (counts p) (LEVEL (n + 1) b) h′ t) 1 r t₂) {x : ℕ} (y : x ≡ wordOf h) {r₁ : Read} {t₃ : List ℕ} (ρ : r₁ ≡ joinedRead m x r) (τ : t₃ ≡ joinedTable m x (i .rows) r t₂) where
       pub levels-fails : {e : Refusal} → r₁ ≡ Refused e → Answers (the s d (LEVEL level b) i t₀) 1 r₁ t₃
       unfolding joinedRead joinedTable
       levels-fails {e} f = go r refl
@@ -131,7 +130,7 @@ module _ (s : List ℕ) (b : Bool) (p : Limits) (level : ℕ) (lo : 1 ≤ level)
           go (Done x′ z′) j = not-both (ρ ∙ ap (joinedRead m x) j) f
           go (Refused x′) j =
               let k₁ : r₁ ≡ r = ρ ∙ ap (joinedRead m x) j ∙ sym j in
-              let k₂ : t₃ ≡ t₂ = τ ∙ ap (λ (v : Read). joinedTable m x v t₂) j in
+              let k₂ : t₃ ≡ t₂ = τ ∙ ap (λ (v : Read). joinedTable m x (i .rows) v t₂) j in
               subst (λ (v : Read). Answers (the s d (LEVEL level b) i t₀) 1 v t₃) (sym k₁) (subst (λ (v : List ℕ). Answers (the s d (LEVEL level b) i t₀) 1 r v) (sym k₂) (refused-down s b p d i t₀ g q n level lo a (let v = levels-few .1 in omega (arith, v)) (binop-fails s b n (level-of n b (levels-few .0) (levels-few .1)) there sign o u j) j))
 
       module _ {x′ : Node} {z′ : Here} (f : r₁ ≡ Done x′ z′) where
@@ -141,14 +140,14 @@ module _ (s : List ℕ) (b : Bool) (p : Limits) (level : ℕ) (lo : 1 ≤ level)
           pub behind : Here
           pub read : r ≡ Done node behind
           pub row : r₁ ≡ Done (nodeOf (detailRow kinds.BINARY m node (wordOf h))) (later behind)
-          pub stored : t₃ ≡ putRow t₂ (behind .rows) (detailRow kinds.BINARY m node (wordOf h))
+          pub stored : t₃ ≡ putOver t₂ behind (detailRow kinds.BINARY m node (wordOf h)) (i .rows)
 
         right : Right
         unfolding joinedRead joinedTable
         right = go r refl
           where
             go : (v : Read) → r ≡ v → Right
-            go (Done m₁ h₁) j = record { node = m₁; behind = h₁; read = j; row = ρ ∙ ap (joinedRead m x) j ∙ ap (λ (v : ℕ). Done (nodeOf (detailRow kinds.BINARY m m₁ v)) (later h₁)) y; stored = τ ∙ ap (λ (v : Read). joinedTable m x v t₂) j ∙ ap (λ (v : ℕ). putRow t₂ (h₁ .rows) (detailRow kinds.BINARY m m₁ v)) y }
+            go (Done m₁ h₁) j = record { node = m₁; behind = h₁; read = j; row = ρ ∙ ap (joinedRead m x) j ∙ ap (λ (v : ℕ). Done (nodeOf (detailRow kinds.BINARY m m₁ v)) (later h₁)) y; stored = τ ∙ ap (λ (v : Read). joinedTable m x (i .rows) v t₂) j ∙ ap (λ (v : ℕ). putOver t₂ h₁ (detailRow kinds.BINARY m m₁ v) (i .rows)) y }
             go (Refused e) j = not-both f (ρ ∙ ap (joinedRead m x) j)
 
         pub levels-less : (nextOf h < nextOf z′) × (nextOf h < 65537)
@@ -175,14 +174,14 @@ module _ (s : List ℕ) (b : Bool) (p : Limits) (level : ℕ) (lo : 1 ≤ level)
             }
 
 -- from where the loop began, behind the first factor
-pub record Chained (s : List ℕ) (b : Bool) (p : Limits) (level : ℕ) (m₀ : Node) (h₀ : Here) (t₀ : List ℕ) (k : ℕ) (m : Node) (h : Here) (t : List ℕ) : Type 0 where
-  pub reached : (d : Counts) (i : Here) (t′ : List ℕ) → Stands s i → after plain d ≡ counts p → Joins (the s d (LEVEL 5 b) i t′) p (MORE 5 b) m₀ h₀ t₀ → Reached s b p level d i t′ k m h t
+pub record Chained (s : List ℕ) (b : Bool) (p : Limits) (level since : ℕ) (m₀ : Node) (h₀ : Here) (t₀ : List ℕ) (k : ℕ) (m : Node) (h : Here) (t : List ℕ) : Type 0 where
+  pub reached : (d : Counts) (i : Here) (t′ : List ℕ) → Stands s i → i .rows ≡ since → after plain d ≡ counts p → Joins (the s d (LEVEL 5 b) i t′) p (MORE 5 b) m₀ h₀ t₀ → Reached s b p level d i t′ k m h t
 
-pub chained-begins : {s : List ℕ} {b : Bool} {p : Limits} (level : ℕ) {m : Node} {h : Here} {t : List ℕ} → level ≤ 5 → Chained s b p level m h t 5 m h t
-chained-begins level hi = record { reached = λ d i t′ g q j. record { most = omega arith; chain = λ x. j; past = λ x. absurd (omega (arith, x, hi)) } }
+pub chained-begins : {s : List ℕ} {b : Bool} {p : Limits} (level : ℕ) {since : ℕ} {m : Node} {h : Here} {t : List ℕ} → level ≤ 5 → Chained s b p level since m h t 5 m h t
+chained-begins level hi = record { reached = λ d i t′ g w q j. record { most = omega arith; chain = λ x. j; past = λ x. absurd (omega (arith, x, hi)) } }
 
-pub chained-again : (s : List ℕ) (b : Bool) (p : Limits) (level : ℕ) → 1 ≤ level → level ≤ 5 → {m₀ : Node} {h₀ : Here} {t₀ : List ℕ} {k : ℕ} {m : Node} {h : Here} {t : List ℕ} → Chained s b p level m₀ h₀ t₀ k m h t → {n : ℕ} → n ≡ levelOf (wordOf h) → level ≤ n → n ≤ k → {h′ : Here} → h′ ≡ passed s h → {r : Read} {t₂ : List ℕ} → Answers (the s (counts p) (LEVEL (n + 1) b) h′ t) 1 r t₂ → {x : ℕ} → x ≡ wordOf h → {r₁ : Read} {t₃ : List ℕ} → r₁ ≡ joinedRead m x r → t₃ ≡ joinedTable m x r t₂ → {x′ : Node} {z′ : Here} → r₁ ≡ Done x′ z′ → {j : ℕ} → j ≡ looserThan n → Chained s b p level m₀ h₀ t₀ j x′ z′ t₃
-chained-again s b p level lo hi {m₀} {h₀} {t₀} c w a z o u y {t₃ = t₃} ρ τ {x′} {z′} f {j} e = subst (λ (v : ℕ). Chained s b p level m₀ h₀ t₀ v x′ z′ t₃) (sym e) (record { reached = λ d i t′ g q v. levels-again s b p level lo hi g q (c .reached d i t′ g q v) w a z o u y ρ τ f })
+pub chained-again : (s : List ℕ) (b : Bool) (p : Limits) (level : ℕ) → 1 ≤ level → level ≤ 5 → {since : ℕ} {m₀ : Node} {h₀ : Here} {t₀ : List ℕ} {k : ℕ} {m : Node} {h : Here} {t : List ℕ} → Chained s b p level since m₀ h₀ t₀ k m h t → {n : ℕ} → n ≡ levelOf (wordOf h) → level ≤ n → n ≤ k → {h′ : Here} → h′ ≡ passed s h → {r : Read} {t₂ : List ℕ} → Answers (the s (counts p) (LEVEL (n + 1) b) h′ t) 1 r t₂ → {x : ℕ} → x ≡ wordOf h → {r₁ : Read} {t₃ : List ℕ} → r₁ ≡ joinedRead m x r → t₃ ≡ joinedTable m x since r t₂ → {x′ : Node} {z′ : Here} → r₁ ≡ Done x′ z′ → {j : ℕ} → j ≡ looserThan n → Chained s b p level since m₀ h₀ t₀ j x′ z′ t₃
+chained-again s b p level lo hi {since} {m₀} {h₀} {t₀} {m = m} c w a z o {r = r} {t₂ = t₂} u {x = x} y {t₃ = t₃} ρ τ {x′} {z′} f {j} e = subst (λ (v : ℕ). Chained s b p level since m₀ h₀ t₀ v x′ z′ t₃) (sym e) (record { reached = λ d i t′ g j q v. levels-again s b p level lo hi g q (c .reached d i t′ g j q v) w a z o u y ρ (τ ∙ ap (λ (n : ℕ). joinedTable m x n r t₂) (sym j)) f })
 
 -- the phrase that is read, from its first factor on
 module _ (s : List ℕ) (b : Bool) (l p : Limits) (level : ℕ) (lo : 1 ≤ level) (hi : level ≤ 5) (i : Here) (t₀ : List ℕ) (g : Stands s i) (v : p ≡ plainly l) {r₀ : Read} {t : List ℕ} (u₀ : Answers (the s (counts l) (OPERAND b) i t₀) 1 r₀ t) where
@@ -199,5 +198,5 @@ module _ (s : List ℕ) (b : Bool) (l p : Limits) (level : ℕ) (lo : 1 ≤ leve
     pub levels-alone : {r : Read} → levelOf (wordOf h₀) < level → r ≡ Done m₀ h₀ → Answers (the s (counts l) (LEVEL level b) i t₀) 1 r t
     levels-alone w e = binop-ends s b level (level-of level b lo hi) (lowered s b p (counts l) i t₀ g behind-level 5 level lo hi (omega arith) (λ x y z f. omega (arith, w, y, f)) start) (λ f. omega (arith, w, f)) e
 
-    pub levels-now : {k : ℕ} {m : Node} {h : Here} {t₁ : List ℕ} → Chained s b p level m₀ h₀ t k m h t₁ → Reached s b p level (counts l) i t₀ k m h t₁
-    levels-now c = c .reached (counts l) i t₀ g behind-level start
+    pub levels-now : {k : ℕ} {m : Node} {h : Here} {t₁ : List ℕ} → Chained s b p level (i .rows) m₀ h₀ t k m h t₁ → Reached s b p level (counts l) i t₀ k m h t₁
+    levels-now c = c .reached (counts l) i t₀ g refl behind-level start

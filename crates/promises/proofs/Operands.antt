@@ -11,7 +11,6 @@ use native.Mathlib.Omega.{arith}
 use Rattle.rows.specs.Kinds as kinds
 use Rattle.tokens.specs.declared.Refusal.{Refusal}
 use Rattle.rows.specs.declared.Row.{Row}
-use Rattle.rows.specs.Rows.{putRow}
 use Rattle.grammar.specs.Words.{names, path-items, literals, four-words, close-brace, open-brace, comma}
 use Rattle.grammar.specs.Grammar.{plain, same, opens-bracket, closes-bracket, Symbol, one-of}
 use Rattle.grammar.specs.Limits.{Counts, zeros, after, inside, kept}
@@ -30,7 +29,7 @@ use Rattle.parser.specs.declared.Limits.{Limits}
 use Rattle.parser.specs.declared.Node.{Node}
 use Rattle.parser.specs.declared.Read.{Read}
 use Rattle.parser.specs.declared.Read.the-variants.{Done, Refused}
-use Rattle.parser.specs.Places.{wordOf, endOf, nextOf, passed, later, unusedAt, unused, nodeOf, plainRow, expected, opening, closing}
+use Rattle.parser.specs.Places.{wordOf, endOf, nextOf, passed, later, unusedAt, unused, nodeOf, putOver, plainRow, expected, opening, closing}
 use Rattle.parser.specs.Counted.{counts, opened}
 use Rattle.parser.specs.Counted as counted
 use Rattle.parser.specs.Going.{language, Stands, lone, many, Phrase, Going, Whole, Stopped, Either, Answers}
@@ -42,7 +41,7 @@ use Rattle.parser.proofs.Sides.{encloses, encloses-word, encloses-out, encloses
 use Rattle.promises.specs.Firsts.{statementFirsts, operandFirsts, postfixSigns, undotted, onward, few}
 use Rattle.promises.specs.Promises.{the, Anyhow, PartlyIs, Partly, wrote, Closed, Listed, Postfixed, Atom, Behind, AnyBehind, fieldsTail, Fielded, Stated}
 use Rattle.promises.proofs.Alternatives.{within, of-two, but-for, insideFirsts, statements-off, block-any, operand-path-on, operand-off, operand-braces-on, operand-block-on, postfix-question, postfix-question-on, postfix-call, postfix-call-on, postfix-access, postfix-access-on, postfix-off, after-path-question-on, after-path-call-on, after-path-record-on, after-path-off-records, after-path-off-none, rest-postfix, rest-after-path, parens-any, braces-any, braces-inside-on, braces-inside-off, braces-inside-fields, braces-inside-statements, braces-inside-field, braces-inside-other, field-any}
-use Rattle.promises.proofs.Answered.{none-fits, of-text, partly-as, put-behind}
+use Rattle.promises.proofs.Answered.{none-fits, of-text, partly-as, put-behind, put-since}
 use Rattle.promises.proofs.Blocks.{leaves-row}
 use Rattle.promises.proofs.Imports.{whole-fewer}
 use Rattle.promises.proofs.Lists.{Lists, fields-list, Listing, Loops, reads-item, item-stops, no-item, no-comma}
@@ -116,9 +115,9 @@ module _ (s : List ℕ) (l : Limits) (h : Here) (t : List ℕ) (g : Stands s h) 
   record-shut i = partly-stops i (opens-off 40 l before-record tt (alike-counts l) p i)
 
   module _ {x : Node} {y : Here} (i : q ≡ Done x y) where
-    pub record-read : {l′ : Limits} {r′ : Read} {t″ : List ℕ} → l′ ≡ opened l → Fielded s y t′ l′ (m .start) 1 r′ t″ → Atom s h t l true r′ t″
+    pub record-read : {l′ : Limits} {r′ : Read} {t″ : List ℕ} → l′ ≡ opened l → Fielded s y t′ l′ (m .start) 1 (h .rows) r′ t″ → Atom s h t l true r′ t″
     unfolding after counts
-    record-read j v = partly-as (v (Operand s l true h t g) (after opens-bracket (counts l)) (a (POSTFIX true) ∷ []) (at (counts l) [] ∷ []) (x .end) 6 (some 40) refl (counts-opened l (opening-done s z 40 (l .brackets) p i .1) ∙ ap counts (sym j)) (inl (opens-on 40 l before-record tt (alike-counts l) p i))) (λ n z′ k. record { at-counts = after closes-bracket (after opens-bracket (counts l)); alike = record { brackets = refl; chain = refl; heads = refl }; going = inl (fewer 1 (omega arith) (last k)) })
+    record-read j v = partly-as (v (Operand s l true h t g) (after opens-bracket (counts l)) (a (POSTFIX true) ∷ []) (at (counts l) [] ∷ []) (x .end) 6 (some 40) refl refl (counts-opened l (opening-done s z 40 (l .brackets) p i .1) ∙ ap counts (sym j)) (inl (opens-on 40 l before-record tt (alike-counts l) p i))) (λ n z′ k. record { at-counts = after closes-bracket (after opens-bracket (counts l)); alike = record { brackets = refl; chain = refl; heads = refl }; going = inl (fewer 1 (omega arith) (last k)) })
 
 -- `{` begins a block or a record; a block where no record may stand.
 pub atom-braces : (s : List ℕ) (l : Limits) (b : Bool) (h : Here) (t : List ℕ) {r : Read} {t′ : List ℕ} → Stands s h → T b → wordOf h ≡ 40 → Answers (the s (counts l) BRACES h t) 1 r t′ → Atom s h t l b r t′
@@ -171,21 +170,21 @@ module _ {f : Phrase} {l : Limits} {b : Bool} {m : Node} {h : Here} {t : List �
       go true g n = out (out (into-off after-path-off-records refl (λ k. elim (of-two (wordOf h) (51 ∷ 42 ∷ []) (40 ∷ []) k) [ inl q ↦ two q | inr q ↦ n tt (the-word q) ]) g))
       go false g n = out (out (into-off after-path-off-none refl two g))
 
-module _ (s : List ℕ) (m : Node) (h : Here) (t : List ℕ) (g : Stands s h) where
-  pub questioned : {r : Read} {t′ : List ℕ} (l : Limits) → wordOf h ≡ 51 → r ≡ wrote s h (plainRow kinds.QUESTION (m .start) (endOf h) 1) → t′ ≡ putRow t (h .rows) (plainRow kinds.QUESTION (m .start) (endOf h) 1) → Behind s m h t l r t′ × onward h r
+module _ (s : List ℕ) (m : Node) (h : Here) (t : List ℕ) (since : ℕ) (g : Stands s h) where
+  pub questioned : {r : Read} {t′ : List ℕ} (l : Limits) → wordOf h ≡ 51 → r ≡ wrote s h (plainRow kinds.QUESTION (m .start) (endOf h) 1) → t′ ≡ putOver t h (plainRow kinds.QUESTION (m .start) (endOf h) 1) since → Behind s m h t l since r t′ × onward h r
   unfolding kept
-  questioned {r} {t′} l o e q = (λ f b i u. partly e (record { at-counts = after plain (u .at-counts); alike = alike-plain l (u .alike); going = inl (fewer {k = 4} 1 (omega arith) (last (writes (takes (before-question u o) tt (is-word o) tt (ap (λ (x : List ℕ). passed x h) (sym i))) refl refl refl refl (put-behind s h t _ q)))) }), subst (onward h) (sym e) (past-word (51 ∷ []) g tt (is-word o) refl .1))
+  questioned {r} {t′} l o e q = (λ f b i n u. partly e (record { at-counts = after plain (u .at-counts); alike = alike-plain l (u .alike); going = inl (fewer {k = 4} 1 (omega arith) (last (writes (takes (before-question u o) tt (is-word o) tt (ap (λ (x : List ℕ). passed x h) (sym i))) refl refl refl refl (put-since _ (passed s h) _ n (put-behind s h t _ since q))))) }), subst (onward h) (sym e) (past-word (51 ∷ []) g tt (is-word o) refl .1))
 
   module _ (l : Limits) (o : wordOf h ≡ 42) {r : Read} {t′ : List ℕ} (u : Listed s h t l 42 EXPRS 43 r t′ × onward h r × few r) where
     call-list : (f : Phrase) (b : Bool) → f .text ≡ s → (p : Postfixed f l b m h t) → Partly f r t′ (λ x z. Going f (at (after plain (p .at-counts)) (row kinds.CALL ∷ a (POSTFIX b) ∷ []) ∷ at (p .at-counts) [] ∷ []) z t′ (many (m .start) (x .end) (x .children + 1) (some 42)) 0 5)
     call-list f b i p = u .0 f (p .at-counts) (row kinds.CALL ∷ a (POSTFIX b) ∷ []) (at (p .at-counts) [] ∷ []) (lone (m .kind) (m .start) (m .end)) 0 1 i (p .alike) (before-call p o)
 
-    pub call-stops : {e : Refusal} → r ≡ Refused e → Behind s m h t l r t′ × onward h r
-    call-stops e = (λ f b i p. stops-partly (call-list f b i p) e, u .1)
+    pub call-stops : {e : Refusal} → r ≡ Refused e → Behind s m h t l since r t′ × onward h r
+    call-stops e = (λ f b i n p. stops-partly (call-list f b i p) e, u .1)
 
     module _ {x : Node} {z : Here} (e : r ≡ Done x z) where
-      pub called : {q : Read} {t″ : List ℕ} {y : Row} → y ≡ plainRow kinds.CALL (m .start) (x .end) (x .children + 1) → q ≡ Done (nodeOf y) (later z) → t″ ≡ putRow t′ (z .rows) y → Behind s m h t l q t″ × onward h q
-      called y d p = (λ f b i v. partly d (record { at-counts = after plain (v .at-counts); alike = alike-plain l (v .alike); going = inl (fewer {k = 4} 1 (omega arith) (last (writes {k = 4} (partly-of (call-list f b i v) e) refl refl y refl p))) }), subst (onward h) (sym d) (subst (onward h) e (u .1)))
+      pub called : {q : Read} {t″ : List ℕ} {y : Row} → y ≡ plainRow kinds.CALL (m .start) (x .end) (x .children + 1) → q ≡ Done (nodeOf y) (later z) → t″ ≡ putOver t′ z y since → Behind s m h t l since q t″ × onward h q
+      called y d p = (λ f b i n v. partly d (record { at-counts = after plain (v .at-counts); alike = alike-plain l (v .alike); going = inl (fewer {k = 4} 1 (omega arith) (last (writes {k = 4} (partly-of (call-list f b i v) e) refl refl y refl (put-since _ z _ n p)))) }), subst (onward h) (sym d) (subst (onward h) e (u .1)))
 
   module _ (o : wordOf h ≡ 49) {h′ : Here} (c : h′ ≡ passed s h) where
     module _ {r : Read} {t′ : List ℕ} (u : Anyhow s NAME h′ t 3 r t′) where
@@ -193,13 +192,13 @@ module _ (s : List ℕ) (m : Node) (h : Here) (t : List ℕ) (g : Stands s h) wh
       unfolding kept
       before-name f b l i p = takes (before-access p o) tt (is-word o) tt (c ∙ ap (λ (x : List ℕ). passed x h) (sym i))
 
-      pub access-stops : {e : Refusal} → r ≡ Refused e → AnyBehind s m h t r t′ × onward h r
+      pub access-stops : {e : Refusal} → r ≡ Refused e → AnyBehind s m h t since r t′ × onward h r
       unfolding inside
-      access-stops e = (λ l f b i p. relays-partly (before-name f b l i p) refl (of-text f i refl (u (after plain (p .at-counts)))) e, subst (onward h) (sym e) tt)
+      access-stops e = (λ l f b i n p. relays-partly (before-name f b l i p) refl (of-text f i refl (u (after plain (p .at-counts)))) e, subst (onward h) (sym e) tt)
 
-      pub accessed : {x : Node} {z : Here} → r ≡ Done x z → {q : Read} {t″ : List ℕ} {y : Row} → y ≡ plainRow kinds.ACCESS (m .start) (x .end) 2 → q ≡ Done (nodeOf y) (later z) → t″ ≡ putRow t′ (z .rows) y → AnyBehind s m h t q t″ × onward h q
+      pub accessed : {x : Node} {z : Here} → r ≡ Done x z → {q : Read} {t″ : List ℕ} {y : Row} → y ≡ plainRow kinds.ACCESS (m .start) (x .end) 2 → q ≡ Done (nodeOf y) (later z) → t″ ≡ putOver t′ z y since → AnyBehind s m h t since q t″ × onward h q
       unfolding inside
-      accessed {x} {z} e {q} {t″} y d p = (λ l f b i v. partly d (record { at-counts = after plain (v .at-counts); alike = alike-plain l (v .alike); going = inl (fewer {k = 7} 1 (omega arith) (last (writes {k = 7} (reads-one (before-name f b l i v) refl refl (whole-of (of-text f i refl (u (after plain (v .at-counts)))) e)) refl refl y refl p))) }), subst (onward h) (sym d) beyond)
+      accessed {x} {z} e {q} {t″} y d p = (λ l f b i n v. partly d (record { at-counts = after plain (v .at-counts); alike = alike-plain l (v .alike); going = inl (fewer {k = 7} 1 (omega arith) (last (writes {k = 7} (reads-one (before-name f b l i v) refl refl (whole-of (of-text f i refl (u (after plain (v .at-counts)))) e)) refl refl y refl (put-since _ z _ n p)))) }), subst (onward h) (sym d) beyond)
         where
           beyond : nextOf h < nextOf z
           beyond =
@@ -220,15 +219,15 @@ pub access-ends : {f : Phrase} {l : Limits} {b : Bool} {m : Node} {h : Here} {t 
 access-ends u o e = done e (ends (nothing-behind u o) refl refl refl)
 
 -- from where the loop began
-abbrev pub Accesses : List ℕ → Limits → Node → Here → List ℕ → Node → Here → List ℕ → Type 0
-Accesses s l m₀ h₀ t₀ m h t = (f : Phrase) (b : Bool) → f .text ≡ s → Postfixed f l b m₀ h₀ t₀ → Postfixed f l b m h t
+abbrev pub Accesses : List ℕ → Limits → ℕ → Node → Here → List ℕ → Node → Here → List ℕ → Type 0
+Accesses s l since m₀ h₀ t₀ m h t = (f : Phrase) (b : Bool) → f .text ≡ s → f .from .rows ≡ since → Postfixed f l b m₀ h₀ t₀ → Postfixed f l b m h t
 
 -- where a reader stands behind an operand
 pub operand-stands : {f : Phrase} {l : Limits} {b : Bool} {m : Node} {h : Here} {t : List ℕ} → Postfixed f l b m h t → Stands (f .text) h × (nextOf (f .from) ≤ nextOf h)
 operand-stands u = elim (u .going) [ inl g ↦ (g .stands, few-rows g .4) | inr g ↦ (g .0 .stands, few-rows (g .0) .4) ]
 
-pub access-on : {f : Phrase} {l : Limits} {b : Bool} {m : Node} {h : Here} {t : List ℕ} {r : Read} {t′ : List ℕ} {n : Node} {z : Here} → Postfixed f l b m h t → Behind (f .text) m h t l r t′ × onward h r → r ≡ Done n z → (nextOf h < nextOf z) × (nextOf z ≤ 65536)
-access-on {h = h} {r} u v e = (subst (onward h) e (v .1), place-near (operand-stands (partly-of (v .0 _ _ refl u) e) .0))
+pub access-on : {f : Phrase} {l : Limits} {b : Bool} {m : Node} {h : Here} {t : List ℕ} {r : Read} {t′ : List ℕ} {n : Node} {z : Here} → Postfixed f l b m h t → Behind (f .text) m h t l (f .from .rows) r t′ × onward h r → r ≡ Done n z → (nextOf h < nextOf z) × (nextOf z ≤ 65536)
+access-on {h = h} {r} u v e = (subst (onward h) e (v .1), place-near (operand-stands (partly-of (v .0 _ _ refl refl u) e) .0))
 
 -- behind a bracket that opens
 pub opening-stands : (w n : ℕ) {s : List ℕ} {h : Here} {r : Read} {x : Node} {y : Here} → T (solid (w ∷ [])) → Stands s h → r ≡ opening s h w n → r ≡ Done x y → Stands s y × (nextOf h < nextOf y)
@@ -294,7 +293,7 @@ module _ (s : List ℕ) (l : Limits) (h : Here) (t : List ℕ) (g : Stands s h) 
         pub field-stops : {k : Refusal} → v ≡ Refused k → Answers Field 1 v t₂
         field-stops k = relays field-signed inner-field w k
 
-        pub field-read : {n : Node} {z′ : Here} {o : Read} {t₃ : List ℕ} {ρ : Row} → v ≡ Done n z′ → ρ ≡ plainRow kinds.FIELD (m .start) (n .end) 2 → o ≡ Done (nodeOf ρ) (later z′) → t₃ ≡ putRow t₂ (z′ .rows) ρ → Answers Field 1 o t₃
+        pub field-read : {n : Node} {z′ : Here} {o : Read} {t₃ : List ℕ} {ρ : Row} → v ≡ Done n z′ → ρ ≡ plainRow kinds.FIELD (m .start) (n .end) 2 → o ≡ Done (nodeOf ρ) (later z′) → t₃ ≡ putOver t₂ z′ ρ (h .rows) → Answers Field 1 o t₃
         field-read k ρ o b = done o (ends (fewer {k = 7} 1 (omega arith) (out (writes {k = 7} (reads-one field-signed refl inner-field (whole-of w k)) refl refl ρ refl b))) refl refl refl)
 
 -- A phrase stops at one place, for one reason.
@@ -333,9 +332,9 @@ module _ (s : List ℕ) (l : Limits) (h : Here) (t : List ℕ) (g : Stands s h) 
     stated k v = leaves-row _ (omega arith) (partly-as (v Braces (bracketed l) (at (bracketed l) [] ∷ []) (x .end) 4 (some 40) refl inner-braces k) (λ m z y. out y))
 
     module _ (n : T (one-of (wordOf y) names)) {y′ : Here} (c : y′ ≡ passed s y) where
-      pub braces-fields : {q : Read} {t′ : List ℕ} → wordOf y′ ≡ 46 → Fielded s y t l′ (x .start) 0 q t′ → Answers Braces 1 q t′
+      pub braces-fields : {q : Read} {t′ : List ℕ} → wordOf y′ ≡ 46 → Fielded s y t l′ (x .start) 0 (h .rows) q t′ → Answers Braces 1 q t′
       unfolding inside
-      braces-fields o v = leaves-row _ (omega arith) (partly-as (v Braces (bracketed l) [] (at (bracketed l) [] ∷ []) (x .end) 4 (some 40) refl inner-braces (inr (into braces-inside-fields refl (braces-inside-field s (in-braces .stands) n c o) in-braces, n))) (λ m z y. out y))
+      braces-fields o v = leaves-row _ (omega arith) (partly-as (v Braces (bracketed l) [] (at (bracketed l) [] ∷ []) (x .end) 4 (some 40) refl refl inner-braces (inr (into braces-inside-fields refl (braces-inside-field s (in-braces .stands) n c o) in-braces, n))) (λ m z y. out y))
 
       pub braces-named : {q : Read} {t′ : List ℕ} → wordOf y′ ≢ 46 → Stated s y t l′ (x .start) q t′ → Answers Braces 1 q t′
       unfolding inside
@@ -390,20 +389,20 @@ refused-onward i e = (subst (onward i) (sym e) tt, subst few (sym e) tt)
 abbrev recordRow : ℕ → ℕ → ℕ → ℕ → Row
 recordRow a e c v = record { kind = kinds.RECORD; start = a; end = e; children = c; value = v; detail = 0 }
 
-fields-end : {f : Phrase} {d : Counts} {ss : List Symbol} {ks : List Left} {h : Here} {t : List ℕ} {b e c k : ℕ} {w : Option ℕ} {q : Row} {r : Read} {t′ : List ℕ} (p : ℕ) → p ≤ 1 → Going f (at d (closes close-brace ∷ fieldsTail p ss) ∷ ks) h t (many b e c w) 0 k → q ≡ recordRow b (endOf h) c p → Closed (f .text) h t close-brace q r t′ → Partly f r t′ (λ m h′. Going f (at (after closes-bracket d) ss ∷ ks) h′ t′ (lone (m .kind) (m .start) (m .end)) 0 k)
+fields-end : {f : Phrase} {since : ℕ} {d : Counts} {ss : List Symbol} {ks : List Left} {h : Here} {t : List ℕ} {b e c k : ℕ} {w : Option ℕ} {q : Row} {r : Read} {t′ : List ℕ} (p : ℕ) → p ≤ 1 → Going f (at d (closes close-brace ∷ fieldsTail p ss) ∷ ks) h t (many b e c w) 0 k → q ≡ recordRow b (endOf h) c p → f .from .rows ≡ since → Closed (f .text) h t close-brace q since r t′ → Partly f r t′ (λ m h′. Going f (at (after closes-bracket d) ss ∷ ks) h′ t′ (lone (m .kind) (m .start) (m .end)) 0 k)
 unfolding kept
-fields-end {f} {d} {ss} {ks} {h} {t} {b} {e} {c} {k} {w} {q} {r} {t′} p n g i u = go (eqb (wordOf h) close-brace) refl
+fields-end {f} {since} {d} {ss} {ks} {h} {t} {b} {e} {c} {k} {w} {q} {r} {t′} p n g i o u = go (eqb (wordOf h) close-brace) refl
   where
     G : Node → Here → Type 0
     G m h′ = Going f (at (after closes-bracket d) ss ∷ ks) h′ t′ (lone (m .kind) (m .start) (m .end)) 0 k
 
-    wrote-row : (p : ℕ) → p ≤ 1 → q ≡ recordRow b (endOf h) c p → Going f (at (after closes-bracket d) (fieldsTail p ss) ∷ ks) (passed (f .text) h) t (many b (endOf h) c (or-word w (wordOf h))) 0 (k + 1) → t′ ≡ putRow t ((passed (f .text) h) .rows) q → G (nodeOf q) (later (passed (f .text) h))
+    wrote-row : (p : ℕ) → p ≤ 1 → q ≡ recordRow b (endOf h) c p → Going f (at (after closes-bracket d) (fieldsTail p ss) ∷ ks) (passed (f .text) h) t (many b (endOf h) c (or-word w (wordOf h))) 0 (k + 1) → t′ ≡ putOver t (passed (f .text) h) q (f .from .rows) → G (nodeOf q) (later (passed (f .text) h))
     wrote-row zero n i g j = writes g refl refl i refl j
     wrote-row (suc zero) n i g j = writes (parts g) refl refl i refl j
     wrote-row (suc (suc x)) n i g j = absurd (omega (arith, n))
 
     closed : wordOf h ≡ close-brace → Partly f r t′ G
-    closed m = let b = u .closed m in partly (b .0) (wrote-row p n i (fewer (k + 1) (omega arith) (takes g tt (is-word m) tt refl)) (put-behind (f .text) h t q (b .1)))
+    closed m = let b = u .closed m in partly (b .0) (wrote-row p n i (fewer (k + 1) (omega arith) (takes g tt (is-word m) tt refl)) (put-since _ (passed (f .text) h) _ o (put-behind (f .text) h t q since (b .1))))
 
     missed : wordOf h ≢ close-brace → Partly f r t′ G
     missed m = let b = u .other m in partly-stops (b .0) (subst (λ (y : List ℕ). Stopped f (unusedAt h) y) (sym (b .1)) (refuses-word g (λ y. m (the-word y))))
@@ -413,7 +412,7 @@ fields-end {f} {d} {ss} {ks} {h} {t} {b} {e} {c} {k} {w} {q} {r} {t′} p n g i 
     go false y = missed (λ m. subst T (ap (λ (b : ℕ). eqb (wordOf h) b) m ∙ y) (eqb-refl (wordOf h)))
 
 -- The fields of a record, from where its loop began.
-module _ {s : List ℕ} {l : Limits} {h₀ : Here} {t₀ : List ℕ} {p : ℕ} {h : Here} {t : List ℕ} {c : ℕ} (g : l .signs ≡ 32) (w : Loops fields-list s l h₀ t₀ p h t c) (start : ℕ) where
+module _ {s : List ℕ} {l : Limits} {h₀ : Here} {t₀ : List ℕ} {p : ℕ} {h : Here} {t : List ℕ} {c : ℕ} (g : l .signs ≡ 32) (w : Loops fields-list s l h₀ t₀ p h t c) (start since : ℕ) where
   module _ (f : Phrase) (d : Counts) (ss : List Symbol) (ks : List Left) (e k : ℕ) (x : Option ℕ) (i : f .text ≡ s) (j : d ≡ counts l) (u : Going f (at d (a FIELDS ∷ closes close-brace ∷ fieldsTail p ss) ∷ ks) h₀ t₀ (many start e p x) 0 k ⊎ (Going f (at d (a FIELD ∷ a FIELDS-MORE ∷ closes close-brace ∷ fieldsTail p ss) ∷ ks) h₀ t₀ (many start e p x) 0 k × T (one-of (wordOf h₀) names))) where
     fielding : Listing fields-list f d (closes close-brace ∷ fieldsTail p ss) ks start (0 + c) x 0 k h t
     fielding = w .goes f d (closes close-brace ∷ fieldsTail p ss) ks start 0 x 0 k i j (ap (after plain) j ∙ counts-same l g ∙ sym j) (subst (λ (n : ℕ). Listing fields-list f d (closes close-brace ∷ fieldsTail p ss) ks start n x 0 k h₀ t₀) none-more (record { end = e; sign = x; settled = λ z. refl; going = elim u [ inl v ↦ inl (alone v) | inr v ↦ inr v ] }))
@@ -422,11 +421,11 @@ module _ {s : List ℕ} {l : Limits} {h₀ : Here} {t₀ : List ℕ} {p : ℕ} {
         none-more = omega arith
 
   module _ {r : Read} {t′ : List ℕ} (o : T (one-of (wordOf h) names)) (v : Answers (the s (counts l) FIELD h t) 1 r t′) where
-    pub fields-stop : {y : Refusal} → r ≡ Refused y → Fielded s h₀ t₀ l start p r t′
-    fields-stop y = λ f d ss ks e k x i j u. partly-stops y (item-stops fields-list (fielding f d ss ks e k x i j u) o (of-text f i j v) y)
+    pub fields-stop : {y : Refusal} → r ≡ Refused y → Fielded s h₀ t₀ l start p since r t′
+    fields-stop y = λ f d ss ks e k x i a j u. partly-stops y (item-stops fields-list (fielding f d ss ks e k x i j u) o (of-text f i j v) y)
 
-    pub fields-last : {m : Node} {z : Here} {q : Row} {r′ : Read} {t″ : List ℕ} → p ≤ 1 → r ≡ Done m z → wordOf z ≢ comma → q ≡ recordRow start (endOf z) (c + 1) p → Closed s z t′ close-brace q r′ t″ → Fielded s h₀ t₀ l start p r′ t″
-    fields-last {m} {z} {q} {r′} {t″} n y b ρ a = λ f d ss ks e k x i j u. fields-end p n (no-comma fields-list (reads-item fields-list (fielding f d ss ks e k x i j u) o (of-text f i j v) y) b .going) (ρ ∙ ap (λ (k : ℕ). recordRow start (endOf z) k p) (omega arith)) (subst (λ (x : List ℕ). Closed x z t′ close-brace q r′ t″) (sym i) a)
+    pub fields-last : {m : Node} {z : Here} {q : Row} {r′ : Read} {t″ : List ℕ} → p ≤ 1 → r ≡ Done m z → wordOf z ≢ comma → q ≡ recordRow start (endOf z) (c + 1) p → Closed s z t′ close-brace q since r′ t″ → Fielded s h₀ t₀ l start p since r′ t″
+    fields-last {m} {z} {q} {r′} {t″} n y b ρ a = λ f d ss ks e k x i o′ j u. fields-end p n (no-comma fields-list (reads-item fields-list (fielding f d ss ks e k x i j u) o (of-text f i j v) y) b .going) (ρ ∙ ap (λ (k : ℕ). recordRow start (endOf z) k p) (omega arith)) o′ (subst (λ (x : List ℕ). Closed x z t′ close-brace q since r′ t″) (sym i) a)
 
-  pub fields-over : {q : Row} {r : Read} {t′ : List ℕ} → p ≤ 1 → (T (one-of (wordOf h) names) → ⊥) → q ≡ recordRow start (endOf h) c p → Closed s h t close-brace q r t′ → Fielded s h₀ t₀ l start p r t′
-  fields-over {q} {r} {t′} n o ρ a = λ f d ss ks e k x i j u. fields-end p n (no-item fields-list (fielding f d ss ks e k x i j u) o .going) (ρ ∙ ap (λ (k : ℕ). recordRow start (endOf h) k p) (omega arith)) (subst (λ (x : List ℕ). Closed x h t close-brace q r t′) (sym i) a)
+  pub fields-over : {q : Row} {r : Read} {t′ : List ℕ} → p ≤ 1 → (T (one-of (wordOf h) names) → ⊥) → q ≡ recordRow start (endOf h) c p → Closed s h t close-brace q since r t′ → Fielded s h₀ t₀ l start p since r t′
+  fields-over {q} {r} {t′} n o ρ a = λ f d ss ks e k x i o′ j u. fields-end p n (no-item fields-list (fielding f d ss ks e k x i j u) o .going) (ρ ∙ ap (λ (k : ℕ). recordRow start (endOf h) k p) (omega arith)) o′ (subst (λ (x : List ℕ). Closed x h t close-brace q since r t′) (sym i) a)

@@ -9,7 +9,6 @@ use native.Mathlib.Omega.{arith}
 use Rattle.rows.specs.Kinds as kinds
 use Rattle.tokens.specs.declared.Refusal.{Refusal}
 use Rattle.rows.specs.declared.Row.{Row}
-use Rattle.rows.specs.Rows.{putRow}
 use Rattle.grammar.specs.Words.{dot}
 use Rattle.grammar.specs.Grammar.{Symbol, plain, one-of}
 use Rattle.grammar.specs.Limits.{Counts, after, inside, kept}
@@ -20,21 +19,21 @@ use Rattle.parser.specs.declared.Here.{Here}
 use Rattle.parser.specs.declared.Node.{Node}
 use Rattle.parser.specs.declared.Read.{Read}
 use Rattle.parser.specs.declared.Read.the-variants.{Done, Refused}
-use Rattle.parser.specs.Places.{wordOf, endOf, nextOf, passed, later, unused, nodeOf, plainRow}
+use Rattle.parser.specs.Places.{wordOf, endOf, nextOf, passed, later, unused, nodeOf, putOver, plainRow}
 use Rattle.parser.specs.Going.{Stands, many, Phrase, Going, Answers}
-use Rattle.parser.proofs.Standing.{here-rows, next-small, solid, past-word, is-word, the-word}
+use Rattle.parser.proofs.Standing.{next-small, solid, past-word, is-word, the-word}
 use Rattle.parser.proofs.Going.{at, takes, out, last, alone, writes, reads-one, ends, refuses-word, done, stopped, whole-of, relays, as-many, fewer}
 use Rattle.parser.proofs.Picks.{Off, begins-any, into-on, into-off}
 use Rattle.promises.specs.Firsts.{undotted}
 use Rattle.promises.specs.Promises.{the, itemRow, wrote, Anyhow}
-use Rattle.promises.proofs.Answered.{further}
+use Rattle.promises.proofs.Answered.{further, put-behind}
 use Rattle.promises.proofs.Alternatives.{path-any, path-rest-on, path-rest-off}
 
 -- a token that is a row of kind 1, whatever the kind and its words
 module _ {n : ℕ} {w : List ℕ} (p : Off n (some (one w ∷ row kinds.NAME ∷ [])) []) (s : List ℕ) (d : Counts) (h : Here) (t : List ℕ) (g : Stands s h) where
-  pub item-read : {r : Read} {t′ : List ℕ} → T (solid w) → T (one-of (wordOf h) w) → r ≡ wrote s h (itemRow h) → t′ ≡ putRow t (h .rows) (itemRow h) → Answers (the s d n h t) 3 r t′
+  pub item-read : {r : Read} {t′ : List ℕ} → T (solid w) → T (one-of (wordOf h) w) → r ≡ wrote s h (itemRow h) → t′ ≡ putOver t h (itemRow h) (h .rows) → Answers (the s d n h t) 3 r t′
   unfolding kept
-  item-read o m e q = done e (ends (out (writes (takes (begins-any p g) o m tt refl) refl refl refl refl (q ∙ ap (λ (n : ℕ). putRow t n (itemRow h)) (sym (here-rows s (nextOf h) (h .rows)))))) refl refl refl)
+  item-read o m e q = done e (ends (out (writes (takes (begins-any p g) o m tt refl) refl refl refl refl (put-behind s h t (itemRow h) (h .rows) q))) refl refl refl)
 
   pub item-refused : {r : Read} → (T (one-of (wordOf h) w) → ⊥) → r ≡ unused h → Answers (the s d n h t) 3 r t
   item-refused m e = stopped e (refuses-word (begins-any p g) m)
@@ -90,7 +89,7 @@ module _ (s : List ℕ) (i : Here) (t₀ : List ℕ) (d : Counts) where
           let j = k .next in
           (omega (arith, i, j), next-small (k .stands))
 
-    pub path-ends : {r : Read} {t′ : List ℕ} → (wordOf h ≡ 49 → ⊥) → r ≡ Done (nodeOf (pathRow a e c)) (later h) → t′ ≡ putRow t (h .rows) (pathRow a e c) → Answers Path 2 r t′
+    pub path-ends : {r : Read} {t′ : List ℕ} → (wordOf h ≡ 49 → ⊥) → r ≡ Done (nodeOf (pathRow a e c)) (later h) → t′ ≡ putOver t h (pathRow a e c) (i .rows) → Answers Path 2 r t′
     unfolding inside
     path-ends n q p = done q (ends (out (writes (out (out (into-off path-rest-off refl (λ x. n (the-word x)) (b .going)))) refl refl refl refl p)) refl refl refl)
 

@@ -38,7 +38,7 @@ use Rattle.parser.specs.declared.Limits.{Limits}
 use Rattle.parser.specs.declared.Node.{Node}
 use Rattle.parser.specs.declared.Read.{Read}
 use Rattle.parser.specs.declared.Read.the-variants.{Done, Refused}
-use Rattle.parser.specs.Places.{wordOf, startOf, endOf, nextOf, bumped, hereAt, later, refusalAt, unused, nodeOf, opening, plainRow, partRow, partNode, pieceRead, pieceTable, partRead, partTable}
+use Rattle.parser.specs.Places.{wordOf, startOf, endOf, nextOf, bumped, hereAt, later, refusalAt, unused, nodeOf, putOver, opening, plainRow, partRow, partNode, pieceRead, pieceTable, partRead, partTable}
 use Rattle.parser.specs.Counted.{counts, opened, Alike}
 use Rattle.parser.specs.Going.{tokenOf, Stands, Tally, bare, many, withToken, countOf, Phrase, Going, Whole, Stopped, Answers}
 use Rattle.parser.proofs.Standing.{solid, stands-at, past-word, the-word, is-word, ends-next}
@@ -174,7 +174,7 @@ module _ {f : Phrase} {l : Limits} {start e c : ℕ} {h : Here} {t : List ℕ} (
   }
 
 -- its row
-pub quoted-ends : {f : Phrase} {start e c : ℕ} {h h′ : Here} {t t′ : List ℕ} {r : Read} → Quoted f start e c h t → r ≡ Done (nodeOf (plainRow kinds.F-STRING start e c)) h′ → h′ ≡ later h → t′ ≡ putRow t (h .rows) (plainRow kinds.F-STRING start e c) → Answers f 1 r t′
+pub quoted-ends : {f : Phrase} {start e c : ℕ} {h h′ : Here} {t t′ : List ℕ} {r : Read} → Quoted f start e c h t → r ≡ Done (nodeOf (plainRow kinds.F-STRING start e c)) h′ → h′ ≡ later h → t′ ≡ putOver t h (plainRow kinds.F-STRING start e c) (f .from .rows) → Answers f 1 r t′
 quoted-ends {start = start} {e = e} {c = c} g v b q = done v (ends (out (writes {r = plainRow kinds.F-STRING start e c} (fewer 2 (omega arith) (g .going)) refl refl refl b q)) refl refl refl)
 
 -- What `parser::piece` answers: a hole is next, or the quote was (92); or a refusal. It has come past place n, with at most one row.
@@ -225,9 +225,9 @@ module _ {f : Phrase} {l : Limits} {start c : ℕ} {h : Here} {t : List ℕ} (g 
   told {r} {t′} w e j is nodes lo hi ws Size.None p a q = partly-stops a (subst (λ (y : List ℕ). Stopped f (refusalAt 7 (nextOf h) e) y) (sym q) (spelling-ill g p tt))
   told {r} {t′} w e j is nodes lo hi ws (Size.Is n) p a q = go (eqb n 0) refl a q
     where
-      go : (b : Bool) → eqb n 0 ≡ b → r ≡ cond b (Done (partNode w (nextOf h) e 0) (hereAt (f .text) j (h .rows))) (Done (partNode w (nextOf h) e 1) (hereAt (f .text) j (bumped (h .rows)))) → t′ ≡ cond b t (putRow t (h .rows) (partRow (nextOf h) e n)) → Partly f r t′ (After f l start c (nextOf h) t′)
-      go true eb a′ q′ = sized w e j n true eb (is n) p lo hi ws (nodes n) a′ (q′ ∙ sym (ap (λ (b : Bool). cond b t (putRow t (h .rows) (partRow (nextOf h) e n))) eb))
-      go false eb a′ q′ = sized w e j n false eb (is n) p lo hi ws (nodes n) a′ (q′ ∙ sym (ap (λ (b : Bool). cond b t (putRow t (h .rows) (partRow (nextOf h) e n))) eb))
+      go : (b : Bool) → eqb n 0 ≡ b → r ≡ cond b (Done (partNode w (nextOf h) e 0) (hereAt (f .text) j (h .rows))) (Done (partNode w (nextOf h) e 1) (hereAt (f .text) j (bumped (h .rows)))) → t′ ≡ cond b t (putRow t (h .rows) (partRow (nextOf h) e n) 1) → Partly f r t′ (After f l start c (nextOf h) t′)
+      go true eb a′ q′ = sized w e j n true eb (is n) p lo hi ws (nodes n) a′ (q′ ∙ sym (ap (λ (b : Bool). cond b t (putRow t (h .rows) (partRow (nextOf h) e n) 1)) eb))
+      go false eb a′ q′ = sized w e j n false eb (is n) p lo hi ws (nodes n) a′ (q′ ∙ sym (ap (λ (b : Bool). cond b t (putRow t (h .rows) (partRow (nextOf h) e n) 1)) eb))
 
   part-told : {r : Read} {t′ : List ℕ} → r ≡ partRead (f .text) (h .rows) (nextOf h) (partAt (f .text) (nextOf h)) → t′ ≡ partTable (f .text) t (h .rows) (nextOf h) (partAt (f .text) (nextOf h)) → Partly f r t′ (After f l start c (nextOf h) t′)
   unfolding partRead partTable
@@ -260,8 +260,8 @@ module _ {s : List ℕ} {l : Limits} {h₀ : Here} {t₀ : List ℕ} {c : ℕ} {
       pub behind-piece : After String l (startOf h₀) c (nextOf h) t₁ m z
       behind-piece = partly-of (piece-told g p q) i
 
-      pub string-ends : {v : Row} {r₁ : Read} {t₂ : List ℕ} → m .kind ≡ 92 → v ≡ plainRow kinds.F-STRING (startOf h₀) (m .end) (c + m .children) → r₁ ≡ Done (nodeOf v) (later z) → t₂ ≡ putRow t₁ (z .rows) v → Answers String 1 r₁ t₂
-      string-ends k v o y = quoted-ends (behind-piece .0 k) (o ∙ ap (λ (x : Row). Done (nodeOf x) (later z)) v) refl (y ∙ ap (putRow t₁ (z .rows)) v)
+      pub string-ends : {v : Row} {r₁ : Read} {t₂ : List ℕ} → m .kind ≡ 92 → v ≡ plainRow kinds.F-STRING (startOf h₀) (m .end) (c + m .children) → r₁ ≡ Done (nodeOf v) (later z) → t₂ ≡ putOver t₁ z v (h₀ .rows) → Answers String 1 r₁ t₂
+      string-ends k v o y = quoted-ends (behind-piece .0 k) (o ∙ ap (λ (x : Row). Done (nodeOf x) (later z)) v) refl (y ∙ ap (λ (x : Row). putOver t₁ z x (h₀ .rows)) v)
 
       -- into a hole
       module _ (k : m .kind ≢ 92) {r₁ : Read} (o : r₁ ≡ opening s z 40 (l .brackets)) where

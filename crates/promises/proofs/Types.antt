@@ -10,7 +10,6 @@ use native.Mathlib.Omega.{arith}
 use Rattle.rows.specs.Kinds as kinds
 use Rattle.tokens.specs.declared.Refusal.{Refusal}
 use Rattle.rows.specs.declared.Row.{Row}
-use Rattle.rows.specs.Rows.{putRow}
 use Rattle.grammar.specs.Words.{close-paren, ':', path-items}
 use Rattle.grammar.specs.Grammar.{plain, opens-bracket, Symbol, one-of}
 use Rattle.grammar.specs.Limits.{Counts, after, inside, kept}
@@ -23,7 +22,7 @@ use Rattle.parser.specs.declared.Limits.{Limits}
 use Rattle.parser.specs.declared.Node.{Node}
 use Rattle.parser.specs.declared.Read.{Read}
 use Rattle.parser.specs.declared.Read.the-variants.{Done, Refused}
-use Rattle.parser.specs.Places.{wordOf, startOf, endOf, nextOf, passed, later, unused, nodeOf, plainRow, expected, opening, closing}
+use Rattle.parser.specs.Places.{wordOf, startOf, endOf, nextOf, passed, later, unused, nodeOf, putOver, plainRow, expected, opening, closing}
 use Rattle.parser.specs.Counted.{counts, plain as plainly}
 use Rattle.parser.specs.Going.{Stands, bare, lone, many, Phrase, Going, Answers}
 use Rattle.parser.proofs.Standing.{solid, lexed, lexed-solid, next-small, past-word, is-word, the-word}
@@ -34,10 +33,10 @@ use Rattle.promises.specs.Firsts.{closingOf, partOf}
 use Rattle.promises.specs.Promises.{the, Anyhow, Partly, itemRow, wrote, Listed, TypeSign, Typing}
 use Rattle.promises.proofs.Alternatives.{type-any, type-marks-on, type-marks-off, type-base-never-on, type-base-unit-on, type-base-record-on, type-base-path-on, type-base-off, type-brackets-on, type-brackets-off, typed-name-any, result-on, result-off, let-type-on, let-type-off, pattern-variant-on, pattern-underscore-on, pattern-off, variant-any, variant-names-on, variant-names-off}
 use Rattle.promises.proofs.Partly.{partly-of, partly, stops-answer, relays-partly}
-use Rattle.promises.proofs.Answered.{of-text, behind-plain, none-fits, done-is, not-first, put-behind, finished, finished-in, word-row}
+use Rattle.promises.proofs.Answered.{of-text, behind-plain, none-fits, done-is, not-first, put-behind, put-since, finished, finished-in, word-row}
 
 -- `!`
-pub never-read : {s : List ℕ} {h h′ : Here} {t t′ : List ℕ} {q : Row} {r : Read} → Stands s h → wordOf h ≡ 52 → h′ ≡ passed s h → q ≡ plainRow kinds.NEVER (startOf h) (endOf h) 0 → r ≡ Done (nodeOf q) (later h′) → t′ ≡ putRow t (h′ .rows) q → Anyhow s TYPE-BASE h t 1 r t′
+pub never-read : {s : List ℕ} {h h′ : Here} {t t′ : List ℕ} {q : Row} {r : Read} → Stands s h → wordOf h ≡ 52 → h′ ≡ passed s h → q ≡ plainRow kinds.NEVER (startOf h) (endOf h) 0 → r ≡ Done (nodeOf q) (later h′) → t′ ≡ putOver t h′ q (h .rows) → Anyhow s TYPE-BASE h t 1 r t′
 never-read g m p e u w d = word-row (begins-on type-base-never-on g (is-word m)) tt refl refl (omega arith) m p e u w
 
 -- `( )`
@@ -52,7 +51,7 @@ module _ (l : Limits) {s : List ℕ} {h : Here} {t : List ℕ} {r : Read} (g : S
     pub unit-unclosed : {e : Refusal} → r₁ ≡ Refused e → Answers (the s (counts l) TYPE-BASE h t) 1 r₁ t
     unit-unclosed p = stopped p (misses 43 (unit-opened q) tt v p)
 
-    pub unit-read : {x₁ : Node} {z₁ : Here} {b : Row} {r₂ : Read} {t′ : List ℕ} → r₁ ≡ Done x₁ z₁ → b ≡ plainRow kinds.UNIT (x .start) (x₁ .end) 0 → r₂ ≡ Done (nodeOf b) (later z₁) → t′ ≡ putRow t (z₁ .rows) b → Answers (the s (counts l) TYPE-BASE h t) 1 r₂ t′
+    pub unit-read : {x₁ : Node} {z₁ : Here} {b : Row} {r₂ : Read} {t′ : List ℕ} → r₁ ≡ Done x₁ z₁ → b ≡ plainRow kinds.UNIT (x .start) (x₁ .end) 0 → r₂ ≡ Done (nodeOf b) (later z₁) → t′ ≡ putOver t z₁ b (h .rows) → Answers (the s (counts l) TYPE-BASE h t) 1 r₂ t′
     unit-read p e w k = finished (closes-on 43 (unit-opened q) tt v p) (omega arith) refl refl e w k
 
 -- `{ list of name : type }`
@@ -63,7 +62,7 @@ module _ {s : List ℕ} {l : Limits} {h : Here} {t : List ℕ} {r : Read} {t₁ 
   pub fields-refused : {e : Refusal} → r ≡ Refused e → Answers (the s (counts l) TYPE-BASE h t) 1 r t₁
   fields-refused q = stops-answer fields-partly q
 
-  pub fields-read : {x : Node} {z : Here} {b : Row} {r₁ : Read} {t₂ : List ℕ} → r ≡ Done x z → b ≡ plainRow kinds.RECORD-TYPE (x .start) (x .end) (x .children) → r₁ ≡ Done (nodeOf b) (later z) → t₂ ≡ putRow t₁ (z .rows) b → Answers (the s (counts l) TYPE-BASE h t) 1 r₁ t₂
+  pub fields-read : {x : Node} {z : Here} {b : Row} {r₁ : Read} {t₂ : List ℕ} → r ≡ Done x z → b ≡ plainRow kinds.RECORD-TYPE (x .start) (x .end) (x .children) → r₁ ≡ Done (nodeOf b) (later z) → t₂ ≡ putOver t₁ z b (h .rows) → Answers (the s (counts l) TYPE-BASE h t) 1 r₁ t₂
   fields-read q e w k = finished (partly-of fields-partly q) (omega arith) refl refl e w k
 
 -- a path with perhaps `[ list of types ]`
@@ -77,7 +76,7 @@ module _ (l : Limits) {s : List ℕ} {h : Here} {t : List ℕ} {r : Read} {t₁ 
     unfolding inside
     base-read = reads-one (begins-on type-base-path-on g m) refl refl (whole-of (u (counts l)) q)
 
-    pub base-alone : {b : Row} {r₁ : Read} {t₂ : List ℕ} → (wordOf z ≡ 44 → ⊥) → b ≡ plainRow kinds.PATH-TYPE (x .start) (x .end) 1 → r₁ ≡ Done (nodeOf b) (later z) → t₂ ≡ putRow t₁ (z .rows) b → Answers (the s (counts l) TYPE-BASE h t) 1 r₁ t₂
+    pub base-alone : {b : Row} {r₁ : Read} {t₂ : List ℕ} → (wordOf z ≡ 44 → ⊥) → b ≡ plainRow kinds.PATH-TYPE (x .start) (x .end) 1 → r₁ ≡ Done (nodeOf b) (later z) → t₂ ≡ putOver t₁ z b (h .rows) → Answers (the s (counts l) TYPE-BASE h t) 1 r₁ t₂
     base-alone n e w k = finished-in (into-off type-brackets-off refl (λ o. n (the-word o)) base-read) (omega arith) refl refl e w k
 
     module _ {r₁ : Read} {t₂ : List ℕ} (o : wordOf z ≡ 44) (v : Listed s z t₁ l 44 TYPES 45 r₁ t₂) where
@@ -91,7 +90,7 @@ module _ (l : Limits) {s : List ℕ} {h : Here} {t : List ℕ} {r : Read} {t₁ 
       pub brackets-read : {y : Node} {i : Here} → r₁ ≡ Done y i → Going (the s (counts l) TYPE-BASE h t) (at (after plain (counts l)) (row kinds.PATH-TYPE ∷ []) ∷ at (counts l) [] ∷ []) i t₂ (many (x .start) (y .end) (y .children + 1) (some 44)) 1 6
       brackets-read p = parts (partly-of bracketed p)
 
-      pub brackets-ended : {y : Node} {i : Here} {b : Row} {r₂ : Read} {t₃ : List ℕ} → r₁ ≡ Done y i → b ≡ record { kind = kinds.PATH-TYPE; start = x .start; end = y .end; children = y .children + 1; value = 1; detail = 0 } → r₂ ≡ Done (nodeOf b) (later i) → t₃ ≡ putRow t₂ (i .rows) b → Answers (the s (counts l) TYPE-BASE h t) 1 r₂ t₃
+      pub brackets-ended : {y : Node} {i : Here} {b : Row} {r₂ : Read} {t₃ : List ℕ} → r₁ ≡ Done y i → b ≡ record { kind = kinds.PATH-TYPE; start = x .start; end = y .end; children = y .children + 1; value = 1; detail = 0 } → r₂ ≡ Done (nodeOf b) (later i) → t₃ ≡ putOver t₂ i b (h .rows) → Answers (the s (counts l) TYPE-BASE h t) 1 r₂ t₃
       brackets-ended p e w k = finished-in (brackets-read p) (omega arith) refl refl e w k
 
 -- no type begins there
@@ -103,8 +102,8 @@ pub record Marked (f : Phrase) (m : Node) (h : Here) (t : List ℕ) : Type 0 whe
   pub counts : Counts
   pub going : Going f (at counts (a TYPE-MARKS ∷ []) ∷ []) h t (lone (m .kind) (m .start) (m .end)) 0 1
 
-abbrev pub Marks : List ℕ → Node → Here → List ℕ → Node → Here → List ℕ → Type 0
-Marks s m₀ h₀ t₀ m h t = (f : Phrase) → f .text ≡ s → Marked f m₀ h₀ t₀ → Marked f m h t
+abbrev pub Marks : List ℕ → ℕ → Node → Here → List ℕ → Node → Here → List ℕ → Type 0
+Marks s since m₀ h₀ t₀ m h t = (f : Phrase) → f .text ≡ s → f .from .rows ≡ since → Marked f m₀ h₀ t₀ → Marked f m h t
 
 module _ {s : List ℕ} {d : Counts} {h : Here} {t : List ℕ} {r : Read} {t₁ : List ℕ} (g : Stands s h) (u : Answers (the s d TYPE-BASE h t) 1 r t₁) where
   pub type-begins : {m : Node} {z : Here} → r ≡ Done m z → Marked (the s d TYPE h t) m z t₁
@@ -115,15 +114,15 @@ module _ {s : List ℕ} {d : Counts} {h : Here} {t : List ℕ} {r : Read} {t₁ 
   unfolding inside
   type-refused q = relays (begins-any type-any g) refl u q
 
-pub type-marks : {f : Phrase} {m m′ : Node} {h h′ : Here} {s t t′ : List ℕ} {r : Read} → f .text ≡ s → Marked f m h t → wordOf h ≡ 51 → r ≡ wrote s h (plainRow kinds.OPTION (m .start) (endOf h) 1) → t′ ≡ putRow t (h .rows) (plainRow kinds.OPTION (m .start) (endOf h) 1) → r ≡ Done m′ h′ → Marked f m′ h′ t′
+pub type-marks : {f : Phrase} {since : ℕ} {m m′ : Node} {h h′ : Here} {s t t′ : List ℕ} {r : Read} → f .text ≡ s → f .from .rows ≡ since → Marked f m h t → wordOf h ≡ 51 → r ≡ wrote s h (plainRow kinds.OPTION (m .start) (endOf h) 1) → t′ ≡ putOver t h (plainRow kinds.OPTION (m .start) (endOf h) 1) since → r ≡ Done m′ h′ → Marked f m′ h′ t′
 unfolding inside kept
-type-marks {f} {m} {m′} {h} {h′} {s} {t} {t′} i g o u p q =
+type-marks {f} {since} {m} {m′} {h} {h′} {s} {t} {t′} i n g o u p q =
     let b : Row = plainRow kinds.OPTION (m .start) (endOf h) 1 in
     let e = done-is (u ∙ ap (λ (x : List ℕ). wrote x h b) (sym i)) q in
     let c : Counts = after plain (g .counts) in
     record {
       counts = c;
-      going = subst (λ (x : Node). Going f (at c (a TYPE-MARKS ∷ []) ∷ []) h′ t′ (lone (x .kind) (x .start) (x .end)) 0 1) (e .0) (subst (λ (x : Here). Going f (at c (a TYPE-MARKS ∷ []) ∷ []) x t′ (lone 5 (m .start) (endOf h)) 0 1) (e .1) (fewer {k = 4} 1 (omega arith) (last (writes (takes (into-on type-marks-on refl (is-word o) (g .going)) tt (is-word o) tt refl) refl refl refl refl (put-behind (f .text) h t b p)))));
+      going = subst (λ (x : Node). Going f (at c (a TYPE-MARKS ∷ []) ∷ []) h′ t′ (lone (x .kind) (x .start) (x .end)) 0 1) (e .0) (subst (λ (x : Here). Going f (at c (a TYPE-MARKS ∷ []) ∷ []) x t′ (lone 5 (m .start) (endOf h)) 0 1) (e .1) (fewer {k = 4} 1 (omega arith) (last (writes (takes (into-on type-marks-on refl (is-word o) (g .going)) tt (is-word o) tt refl) refl refl refl refl (put-behind (f .text) h t b (f .from .rows) (put-since _ h _ n p))))));
     }
 
 pub type-ends : {f : Phrase} {m : Node} {h : Here} {t : List ℕ} {r : Read} → Marked f m h t → (wordOf h ≡ 51 → ⊥) → r ≡ Done m h → Answers f 1 r t
@@ -161,7 +160,7 @@ module _ (l : Limits) {s : List ℕ} {h : Here} {t : List ℕ} {r : Read} {t₁ 
         unfolding inside
         typed-refused o = relays colon-read refl (behind-plain l e w) o
 
-        pub typed-read : {x₁ : Node} {z₁ : Here} {b : Row} {r₃ : Read} {t₃ : List ℕ} → r₂ ≡ Done x₁ z₁ → b ≡ plainRow kinds.TYPED-NAME (x .start) (x₁ .end) 2 → r₃ ≡ Done (nodeOf b) (later z₁) → t₃ ≡ putRow t₂ (z₁ .rows) b → Answers (the s (counts l) TYPED-NAME h t) 1 r₃ t₃
+        pub typed-read : {x₁ : Node} {z₁ : Here} {b : Row} {r₃ : Read} {t₃ : List ℕ} → r₂ ≡ Done x₁ z₁ → b ≡ plainRow kinds.TYPED-NAME (x .start) (x₁ .end) 2 → r₃ ≡ Done (nodeOf b) (later z₁) → t₃ ≡ putOver t₂ z₁ b (h .rows) → Answers (the s (counts l) TYPED-NAME h t) 1 r₃ t₃
         unfolding inside
         typed-read o b k j = finished (reads-one colon-read refl refl (whole-of (behind-plain l e w) o)) (omega arith) refl refl b k j
 
@@ -208,23 +207,23 @@ module _ {s : List ℕ} {h : Here} {t : List ℕ} {sign : ℕ} where
       type-present {b} q e′ = λ f d ss ks n x e c k w i y u g. partly e′ (record { end = b .end; sign = or-word w (wordOf h); one = omega arith; going = fewer k (omega arith) (out (parts (reads-one (signed f d ss ks n x e c k w i u g) refl refl (whole-of (of-text f i (ap (after plain) y) (behind-plain l j a′)) q)))) })
 
 -- `_`
-pub any-read : {s : List ℕ} {h h′ : Here} {t t′ : List ℕ} {q : Row} {r : Read} → Stands s h → wordOf h ≡ 14 → h′ ≡ passed s h → q ≡ plainRow kinds.ANY (startOf h) (endOf h) 0 → r ≡ Done (nodeOf q) (later h′) → t′ ≡ putRow t (h′ .rows) q → Anyhow s PATTERN h t 1 r t′
+pub any-read : {s : List ℕ} {h h′ : Here} {t t′ : List ℕ} {q : Row} {r : Read} → Stands s h → wordOf h ≡ 14 → h′ ≡ passed s h → q ≡ plainRow kinds.ANY (startOf h) (endOf h) 0 → r ≡ Done (nodeOf q) (later h′) → t′ ≡ putOver t h′ q (h .rows) → Anyhow s PATTERN h t 1 r t′
 any-read g m p e u w d = word-row (begins-on pattern-underscore-on g (is-word m)) tt refl refl (omega arith) m p e u w
 
 -- a name with perhaps `( list of names )`
 pub no-pattern : {s : List ℕ} {d : Counts} {h : Here} {t : List ℕ} {r : Read} → Stands s h → (wordOf h ≡ 14 → ⊥) → (wordOf h ≡ 13 → ⊥) → r ≡ unused h → Answers (the s d PATTERN h t) 1 r t
 no-pattern {h = h} g i j e = none-fits pattern-off g (not-first (wordOf h) 13 (14 ∷ []) j (not-first (wordOf h) 14 [] i (λ x. x))) e
 
-module _ (l : Limits) {s : List ℕ} {h : Here} {t : List ℕ} {r : Read} {t₁ : List ℕ} (g : Stands s h) (m : wordOf h ≡ 13) (u : r ≡ wrote s h (itemRow h)) (p : t₁ ≡ putRow t (h .rows) (itemRow h)) where
+module _ (l : Limits) {s : List ℕ} {h : Here} {t : List ℕ} {r : Read} {t₁ : List ℕ} (g : Stands s h) (m : wordOf h ≡ 13) (u : r ≡ wrote s h (itemRow h)) (p : t₁ ≡ putOver t h (itemRow h) (h .rows)) where
   variant : Answers (the s (counts l) VARIANT h t) 3 r t₁
-  variant = word-row (begins-any variant-any g) tt refl refl (omega arith) m refl refl u (put-behind s h t (itemRow h) p)
+  variant = word-row (begins-any variant-any g) tt refl refl (omega arith) m refl refl u (put-behind s h t (itemRow h) (h .rows) p)
 
   module _ {x : Node} {z : Here} (q : r ≡ Done x z) where
     pub variant-read : Going (the s (counts l) PATTERN h t) (at (counts l) (a VARIANT-NAMES ∷ []) ∷ []) z t₁ (lone (x .kind) (x .start) (x .end)) 0 3
     unfolding inside
     variant-read = reads-one (begins-on pattern-variant-on g (is-word m)) refl refl (whole-of variant q)
 
-    pub variant-alone : {b : Row} {r₁ : Read} {t₂ : List ℕ} → (wordOf z ≡ 42 → ⊥) → b ≡ plainRow kinds.VARIANT (x .start) (x .end) 1 → r₁ ≡ Done (nodeOf b) (later z) → t₂ ≡ putRow t₁ (z .rows) b → Answers (the s (counts l) PATTERN h t) 1 r₁ t₂
+    pub variant-alone : {b : Row} {r₁ : Read} {t₂ : List ℕ} → (wordOf z ≡ 42 → ⊥) → b ≡ plainRow kinds.VARIANT (x .start) (x .end) 1 → r₁ ≡ Done (nodeOf b) (later z) → t₂ ≡ putOver t₁ z b (h .rows) → Answers (the s (counts l) PATTERN h t) 1 r₁ t₂
     variant-alone n e w k = finished-in (into-off variant-names-off refl (λ o. n (the-word o)) variant-read) (omega arith) refl refl e w k
 
     module _ {r₁ : Read} {t₂ : List ℕ} (o : wordOf z ≡ 42) (v : Listed s z t₁ l 42 NAMES 43 r₁ t₂) where
@@ -238,7 +237,7 @@ module _ (l : Limits) {s : List ℕ} {h : Here} {t : List ℕ} {r : Read} {t₁ 
       pub names-read : {y : Node} {i : Here} → r₁ ≡ Done y i → Going (the s (counts l) PATTERN h t) (at (after plain (counts l)) (row kinds.VARIANT ∷ []) ∷ at (counts l) [] ∷ []) i t₂ (many (x .start) (y .end) (y .children + 1) (some 42)) 1 7
       names-read p = parts (partly-of named p)
 
-      pub names-ended : {y : Node} {i : Here} {b : Row} {r₂ : Read} {t₃ : List ℕ} → r₁ ≡ Done y i → b ≡ record { kind = kinds.VARIANT; start = x .start; end = y .end; children = y .children + 1; value = 1; detail = 0 } → r₂ ≡ Done (nodeOf b) (later i) → t₃ ≡ putRow t₂ (i .rows) b → Answers (the s (counts l) PATTERN h t) 1 r₂ t₃
+      pub names-ended : {y : Node} {i : Here} {b : Row} {r₂ : Read} {t₃ : List ℕ} → r₁ ≡ Done y i → b ≡ record { kind = kinds.VARIANT; start = x .start; end = y .end; children = y .children + 1; value = 1; detail = 0 } → r₂ ≡ Done (nodeOf b) (later i) → t₃ ≡ putOver t₂ i b (h .rows) → Answers (the s (counts l) PATTERN h t) 1 r₂ t₃
       names-ended p e w k = finished-in (names-read p) (omega arith) refl refl e w k
 
 -- a bracket of typed names

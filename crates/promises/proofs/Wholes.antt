@@ -5,7 +5,7 @@ use mathlib.Core.Path.{_≡_, refl, sym, ap, subst, _∙_}
 use mathlib.Core.List.{List, [], _∷_}
 use mathlib.Core.Bool.{Bool, true, false, not}
 use mathlib.Core.Logic.{_≢_}
-use Prim.Native.Nat.{ℕ, _+_, _≤_, _<_}
+use Prim.Native.Nat.{ℕ, suc, _+_, _≤_, _<_}
 use lib.Dec.{T, ltb, ltb→lt}
 use lib.ListN.{length, length-append}
 use lib.Seq.{slice}
@@ -24,7 +24,7 @@ use Rattle.grammar.specs.Grammar.{same, Token, one-of}
 use Rattle.grammar.specs.Limits.{Counts, zeros, inside, kept}
 use Rattle.grammar.specs.Table.{a}
 use Rattle.grammar.specs.Kinds.{records, TREE, DECLARATIONS, DECLARATION, EXPR, LITERAL}
-use Rattle.grammar.specs.Rows.{Item, own, count, Draft, blank, take-note, row-of, literal-of, tree-row, rows-from}
+use Rattle.grammar.specs.Rows.{Item, own, count, sizes, Draft, blank, take-note, row-of, literal-of, tree-row, rows-from}
 use Rattle.grammar.specs.Rows as grammar
 use Rattle.grammar.specs.Refusals.{want}
 use Rattle.grammar.specs.Refusals as refusals
@@ -42,7 +42,7 @@ use Rattle.parser.specs.declared.Node.{Node}
 use Rattle.parser.specs.declared.Read.{Read}
 use Rattle.parser.specs.declared.Read.the-variants.{Done, Refused}
 use Rattle.parser.proofs.Laws.{bump-more, word-taken, start-taken, end-taken, next-taken}
-use Rattle.parser.specs.Places.{wordOf, startOf, endOf, nextOf, bumped, hereAt, unused, passed, later, refusalAt, nodeOf, plainRow}
+use Rattle.parser.specs.Places.{wordOf, startOf, endOf, nextOf, bumped, hereAt, unused, passed, later, refusalAt, nodeOf, sizeFrom, putOver, plainRow}
 use Rattle.parser.specs.Going.{language, tokenOf, Stands, asRow, store, Tally, bare, lone, many, Holds, withNode, countOf, Phrase, Going, Stopped, Answers}
 use Rattle.parser.proofs.Standing.{here-place, here-rows, says, is-over, not-over, solid-word, is-token, goes-past, more-rows, next-small}
 use Rattle.parser.proofs.Tables.{store-row, store-length}
@@ -70,10 +70,10 @@ module _ (s : List ℕ) (d : Counts) (h : Here) (t : List ℕ) (g : Stands s h) 
   literal-none n e = stopped e (refuses-past (begins-any literal-any g) tt o (subst (λ (y : Literal). T (not (holds y))) (sym n ∙ p) tt))
 
   module _ {k v e : ℕ} (q : x ≡ Literal.Is k v e) where
-    row-is : asRow (literal-of (own (tokenOf s h) ∷ [])) ≡ literalRow h k v e
-    row-is = ap (λ (y : Literal). asRow (literal-of (own (tokenFor (wordOf h) (startOf h) (endOf h) y) ∷ []))) (sym p ∙ q)
+    row-is : asRow (literal-of (own (tokenOf s h) ∷ []) 0 1) ≡ literalRow h k v e
+    row-is = ap (λ (y : Literal). asRow (literal-of (own (tokenFor (wordOf h) (startOf h) (endOf h) y) ∷ []) 0 1)) (sym p ∙ q)
 
-    literal-read : {z : Here} {r : Read} {t′ : List ℕ} → z ≡ passed s h → (r ≡ Done (nodeOf (literalRow h k v e)) (later z)) × (t′ ≡ putRow t (z .rows) (literalRow h k v e)) → Answers Literally 1 r t′
+    literal-read : {z : Here} {r : Read} {t′ : List ℕ} → z ≡ passed s h → (r ≡ Done (nodeOf (literalRow h k v e)) (later z)) × (t′ ≡ putOver t z (literalRow h k v e) (h .rows)) → Answers Literally 1 r t′
     unfolding inside kept take-note row-of store
     literal-read j w =
         let n = solid-word (wordOf h) literals tt o in
@@ -87,14 +87,15 @@ module _ (s : List ℕ) (d : Counts) (h : Here) (t : List ℕ) (g : Stands s h) 
         let same-rows = b .3 in
         let more : bumped ((passed s h) .rows) ≡ (passed s h) .rows + 1 = sym (bump-more 300000 ((passed s h) .rows) (omega arith)) in
         let had = g .few in
+        let one : sizeFrom (passed s h) (h .rows) ≡ 1 = omega (arith, more, same-rows) in
         let opened = pop (source s) language (notes (source s) language (take (source s) language (c .0) tt o (subst (λ (y : Literal). T (holds y)) (sym q ∙ p) tt) (start (source s) language literal-is (picks-else s g literal-any (λ z. z))))) in
         done (w .0 ∙ ap (λ (z : Here). Done (nodeOf (literalRow h k v e)) (later z)) j) (record {
           draft = take-note 100 (with-own x blank);
           read = finish (source s) language (subst (λ (z : ℕ). Open (source s) language d same LITERAL (h .place) [] z (take-note 100 (with-own x blank))) (sym (b .1)) opened);
           stands = more-rows (b .0) refl (omega (arith, more, had, same-rows, next));
-          leaves = (literal-of (own x ∷ []), refl, ap (λ (z : Row). z .kind) row-is, refl, refl);
+          leaves = (literal-of (own x ∷ []) 0 1, refl, ap (λ (z : Row). z .kind) row-is, refl, refl);
           rows = omega (arith, more, same-rows);
-          stored = w .1 ∙ ap (λ (z : Here). putRow t (z .rows) (literalRow h k v e)) j ∙ ap (λ (z : ℕ). putRow t z (literalRow h k v e)) same-rows ∙ ap (putRow t (h .rows)) (sym row-is);
+          stored = w .1 ∙ ap (λ (z : Here). putOver t z (literalRow h k v e) (h .rows)) j ∙ ap (putRow t ((passed s h) .rows) (literalRow h k v e)) one ∙ ap (λ (z : ℕ). putRow t z (literalRow h k v e) 1) same-rows ∙ ap (λ (z : Row). putRow t (h .rows) z 1) (sym row-is);
           counted = omega (arith, more, same-rows);
           spares = omega (arith, more, same-rows, next);
         })
@@ -112,10 +113,10 @@ module _ (s : List ℕ) (d : Counts) (h : Here) (t : List ℕ) (g : Stands s h) 
   pub token-none : {r : Read} → x ≡ Literal.None → r ≡ Refused (refusalAt 7 a (next .at)) → Answers (the s d LITERAL h t) 1 r t
   token-none q e = literal-none s d h t g o token-value q (e ∙ ap (λ (y : ℕ). Refused (refusalAt 7 y (next .at))) (sym (start-taken i)) ∙ ap (λ (y : ℕ). Refused (refusalAt 7 (startOf h) y)) (sym (end-taken i)))
 
-  pub token-read : {k v e : ℕ} {z : Here} {r : Read} {t′ : List ℕ} → x ≡ Literal.Is k v e → z ≡ hereAt s (next .at) (h .rows) → (r ≡ Done (nodeOf (spanRow k a (next .at) v e)) (later z)) × (t′ ≡ putRow t (z .rows) (spanRow k a (next .at) v e)) → Answers (the s d LITERAL h t) 1 r t′
+  pub token-read : {k v e : ℕ} {z : Here} {r : Read} {t′ : List ℕ} → x ≡ Literal.Is k v e → z ≡ hereAt s (next .at) (h .rows) → (r ≡ Done (nodeOf (spanRow k a (next .at) v e)) (later z)) × (t′ ≡ putOver t z (spanRow k a (next .at) v e) (h .rows)) → Answers (the s d LITERAL h t) 1 r t′
   token-read {k} {v} {e} {z} q j u =
       let m : spanRow k a (next .at) v e ≡ literalRow h k v e = ap (λ (y : ℕ). spanRow k y (next .at) v e) (sym (start-taken i)) ∙ ap (λ (y : ℕ). spanRow k (startOf h) y v e) (sym (end-taken i)) in
-      literal-read s d h t g o token-value q (j ∙ ap (λ (y : ℕ). hereAt s y (h .rows)) (sym (next-taken (h .place) i))) (written z t m u)
+      literal-read s d h t g o token-value q (j ∙ ap (λ (y : ℕ). hereAt s y (h .rows)) (sym (next-taken (h .place) i))) (written z t (h .rows) m u)
 
 -- either way the table keeps its length
 pub finished-kept : {tree : Bool} {s t : List ℕ} {r : Read} {t′ : List ℕ} → length s ≤ 65535 → Finished tree s t r t′ → length t′ ≡ length t
@@ -218,7 +219,7 @@ module _ (s t₀ : List ℕ) (short : length s ≤ 65535) {i : Here} (b : i ≡ 
       pub tree-left : {r : Read} → wordOf h ≢ 0 → r ≡ unused h → Finished true s t₀ r t
       tree-left n q = finished-left true s t₀ short b (finish (source s) language (tree-over .opened)) (x .going .stands) n q (kept-length tree-over)
 
-      pub tree-read : {y : Row} {r : Read} {t′ : List ℕ} → wordOf h ≡ 0 → y ≡ plainRow kinds.TREE 0 (length s) c → (r ≡ Done (nodeOf y) (later h)) × (t′ ≡ putRow t (h .rows) y) → Finished true s t₀ r t′
+      pub tree-read : {y : Row} {r : Read} {t′ : List ℕ} → wordOf h ≡ 0 → y ≡ plainRow kinds.TREE 0 (length s) c → (r ≡ Done (nodeOf y) (later h)) × (t′ ≡ putOver t h y 0) → Finished true s t₀ r t′
       unfolding rows-from
       tree-read n e p =
           let g = tree-over in
@@ -231,7 +232,8 @@ module _ (s t₀ : List ℕ) (short : length s ≤ 65535) {i : Here} (b : i ≡ 
           let k : grammar.count (d .items) ≡ c = holds-count (x .tally) (d .items) (g .holds) ∙ x .count in
           let at-start : t ≡ store t₀ 0 (d .rows) = g .stored ∙ ap (λ (q : ℕ). store t₀ q (d .rows)) z in
           let rows : h .rows ≡ 0 + length (d .rows) = omega (arith, z, r) in
-          finished-read true s t₀ short b (finish (source s) language (g .opened)) (g .stands) n (p .0) (omega (arith, more, r, z, len)) (p .1 ∙ ap (putRow t (h .rows)) e ∙ ap (λ (q : List ℕ). putRow q (h .rows) (plainRow kinds.TREE 0 (length s) c)) at-start ∙ ap (λ (q : ℕ). putRow (store t₀ 0 (d .rows)) q (plainRow kinds.TREE 0 (length s) c)) rows ∙ ap (λ (q : ℕ). putRow (store t₀ 0 (d .rows)) (0 + length (d .rows)) (plainRow kinds.TREE 0 (length s) q)) (sym k) ∙ sym (store-row t₀ 0 (d .rows) (tree-row (length s) d)))
+          let all : sizeFrom h 0 ≡ suc (sizes (d .items)) = let w = g .sized in omega (arith, more, rows, w) in
+          finished-read true s t₀ short b (finish (source s) language (g .opened)) (g .stands) n (p .0) (omega (arith, more, r, z, len)) (p .1 ∙ ap (λ (q : Row). putOver t h q 0) e ∙ ap (λ (q : List ℕ). putOver q h (plainRow kinds.TREE 0 (length s) c) 0) at-start ∙ ap (putRow (store t₀ 0 (d .rows)) (h .rows) (plainRow kinds.TREE 0 (length s) c)) all ∙ ap (λ (q : ℕ). putRow (store t₀ 0 (d .rows)) q (plainRow kinds.TREE 0 (length s) c) (suc (sizes (d .items)))) rows ∙ ap (λ (q : ℕ). putRow (store t₀ 0 (d .rows)) (0 + length (d .rows)) (plainRow kinds.TREE 0 (length s) q) (suc (sizes (d .items)))) (sym k) ∙ sym (store-row t₀ 0 (d .rows) (tree-row (length s) d)))
 
 -- one declaration more
 pub tree-more : {s : List ℕ} {i : Here} {t₀ : List ℕ} {c : ℕ} {h : Here} {t : List ℕ} {r : Read} {m : Node} {z : Here} {t′ : List ℕ} → Declaring (the s zeros TREE i t₀) c h t → T (one-of (wordOf h) declarationFirsts) → Answers (the s zeros DECLARATION h t) 1 r t′ → r ≡ Done m z → Declaring (the s zeros TREE i t₀) (c + 1) z t′

@@ -6,7 +6,6 @@ use Prim.Native.Nat.{ℕ, _<_}
 use lib.Dec.{eqb}
 use Rattle.rows.specs.Kinds as kinds
 use Rattle.rows.specs.declared.Row.{Row}
-use Rattle.rows.specs.Rows.{putRow}
 use Rattle.grammar.specs.Words.{f-quote, open-brace, close-brace, open-paren, close-paren, '!', '-', dot, '?', 'import', 'let', 'const', 'fn', 'test', comma, '||', '&&', path-items, literals, four-words, compare-signs, sum-signs, product-signs, return-words, filter-words}
 use Rattle.grammar.specs.Grammar.{one-of}
 use Rattle.grammar.specs.Rows.{detail-for}
@@ -16,7 +15,7 @@ use Rattle.parser.specs.declared.Read.{Read}
 use Rattle.parser.specs.declared.Read.the-variants.{Done, Refused}
 use Rattle.parser.specs.declared.Stmt.{Stmt}
 use Rattle.parser.specs.declared.Arm.{Arm}
-use Rattle.parser.specs.Places.{wordOf, nextOf, passed, later, nodeOf}
+use Rattle.parser.specs.Places.{wordOf, nextOf, passed, later, nodeOf, putOver}
 
 -- what an operand, an expr, a type, a statement, a declaration can begin with
 abbrev pub operandFirsts : List ℕ
@@ -68,9 +67,9 @@ unfoldable pub joinedRead : Node → ℕ → Read → Read
 joinedRead m w (Done n h) = Done (nodeOf (detailRow kinds.BINARY m n w)) (later h)
 joinedRead m w (Refused e) = Refused e
 
-unfoldable pub joinedTable : Node → ℕ → Read → List ℕ → List ℕ
-joinedTable m w (Done n h) t = putRow t (h .rows) (detailRow kinds.BINARY m n w)
-joinedTable m w (Refused e) t = t
+unfoldable pub joinedTable : Node → ℕ → ℕ → Read → List ℕ → List ℕ
+joinedTable m w since (Done n h) t = putOver t h (detailRow kinds.BINARY m n w) since
+joinedTable m w since (Refused e) t = t
 
 -- how tight a sign may bind behind one of a level: comparisons are "not chained"
 abbrev pub looserThan : ℕ → ℕ

@@ -13,7 +13,6 @@ use lib.ListN.{length, getD}
 use Rattle.rows.specs.Kinds as kinds
 use Rattle.tokens.specs.declared.Refusal.{Refusal}
 use Rattle.rows.specs.declared.Row.{Row}
-use Rattle.rows.specs.Rows.{putRow}
 use Rattle.grammar.specs.Words.{open-brace, close-brace, 'in', dot, ':', semicolon, '->', names}
 use Rattle.grammar.specs.Grammar.{plain, closes-bracket, body, Symbol, one-of}
 use Rattle.grammar.specs.Limits.{Counts, after, inside}
@@ -32,7 +31,7 @@ use Rattle.parser.specs.declared.Read.{Read}
 use Rattle.parser.specs.declared.Read.the-variants.{Done, Refused}
 use Rattle.parser.specs.declared.Stmt.{Stmt}
 use Rattle.parser.specs.declared.Arm.{Arm}
-use Rattle.parser.specs.Places.{wordOf, startOf, endOf, nextOf, passed, later, unused, expected, under, refusalAt, nodeOf, plainRow}
+use Rattle.parser.specs.Places.{wordOf, startOf, endOf, nextOf, passed, later, unused, expected, under, refusalAt, nodeOf, putOver, plainRow}
 use Rattle.parser.specs.Counted.{counts, headed, Alike}
 use Rattle.parser.specs.Going.{Stands, store, Tally, bare, lone, many, withNode, Phrase, Going, Stopped, Answers}
 use Rattle.parser.proofs.Standing.{lexed}
@@ -64,11 +63,11 @@ abbrev pub wrote : List ℕ → Here → Row → Read
 wrote s h r = Done (nodeOf r) (later (passed s h))
 
 -- The same at one of the words that the lexer takes, as every reader stands that asks for it.
-abbrev pub Wrote : List ℕ → Here → List ℕ → Row → Read → List ℕ → Type 0
-Wrote s h t q r t′ = (w : List ℕ) → T (lexed w) → T (one-of (wordOf h) w) → (r ≡ wrote s h q) × (t′ ≡ putRow t (h .rows) q)
+abbrev pub Wrote : List ℕ → Here → List ℕ → Row → ℕ → Read → List ℕ → Type 0
+Wrote s h t q since r t′ = (w : List ℕ) → T (lexed w) → T (one-of (wordOf h) w) → (r ≡ wrote s h q) × (t′ ≡ putOver t h q since)
 
-pub record Closed (s : List ℕ) (h : Here) (t : List ℕ) (w : ℕ) (q : Row) (r : Read) (t′ : List ℕ) : Type 0 where
-  pub closed : wordOf h ≡ w → (r ≡ wrote s h q) × (t′ ≡ putRow t (h .rows) q)
+pub record Closed (s : List ℕ) (h : Here) (t : List ℕ) (w : ℕ) (q : Row) (since : ℕ) (r : Read) (t′ : List ℕ) : Type 0 where
+  pub closed : wordOf h ≡ w → (r ≡ wrote s h q) × (t′ ≡ putOver t h q since)
   pub other : wordOf h ≢ w → (r ≡ unused h) × (t′ ≡ t)
 
 -- A list in brackets, o to c: what the phrase has behind it, m being the list's node (its span and number of items).
@@ -105,10 +104,10 @@ Guarded s h t l r t′ =
     → Going f (at d (a GUARD ∷ ss) ∷ ks) h t (many x e c w) 0 k
     → Partly f r t′ (λ m h′. Perhaps f (at d ss ∷ ks) x c k (m .children) h′ t′)
 
--- The group `{ importpaths }` that ends an import path; behind it the path is whole.
-abbrev pub Grouped : List ℕ → Here → List ℕ → Limits → ℕ → ℕ → Read → List ℕ → Type 0
-Grouped s h t l start items r t′ =
-    (f : Phrase) (d : Counts) (e : ℕ) (w : Option ℕ) → f .text ≡ s → Alike d l
+-- The group `{ importpaths }` that ends an import path; behind it the path is whole. Its rows began at `since`, here and below.
+abbrev pub Grouped : List ℕ → Here → List ℕ → Limits → ℕ → ℕ → ℕ → Read → List ℕ → Type 0
+Grouped s h t l start items since r t′ =
+    (f : Phrase) (d : Counts) (e : ℕ) (w : Option ℕ) → f .text ≡ s → f .from .rows ≡ since → Alike d l
     → Going f (at d (a IMPORTPATH-DOT ∷ []) ∷ at (f .counts) (row kinds.IMPORT-PATH ∷ []) ∷ []) h t (many start e items w) 0 3
     → Answers f 2 r t′
 
@@ -133,26 +132,26 @@ pub record Postfixed (f : Phrase) (l : Limits) (b : Bool) (m : Node) (h : Here) 
 abbrev pub Atom : List ℕ → Here → List ℕ → Limits → Bool → Read → List ℕ → Type 0
 Atom s h t l b r t′ = Partly (the s (counts l) (OPERAND b) h t) r t′ (λ m h′. Postfixed (the s (counts l) (OPERAND b) h t) l b m h′ t′)
 
-abbrev pub Behind : List ℕ → Node → Here → List ℕ → Limits → Read → List ℕ → Type 0
-Behind s m h t l r t′ = (f : Phrase) (b : Bool) → f .text ≡ s → Postfixed f l b m h t → Partly f r t′ (λ m′ h′. Postfixed f l b m′ h′ t′)
+abbrev pub Behind : List ℕ → Node → Here → List ℕ → Limits → ℕ → Read → List ℕ → Type 0
+Behind s m h t l since r t′ = (f : Phrase) (b : Bool) → f .text ≡ s → f .from .rows ≡ since → Postfixed f l b m h t → Partly f r t′ (λ m′ h′. Postfixed f l b m′ h′ t′)
 
-abbrev pub AnyBehind : List ℕ → Node → Here → List ℕ → Read → List ℕ → Type 0
-AnyBehind s m h t r t′ = (l : Limits) → Behind s m h t l r t′
+abbrev pub AnyBehind : List ℕ → Node → Here → List ℕ → ℕ → Read → List ℕ → Type 0
+AnyBehind s m h t since r t′ = (l : Limits) → Behind s m h t l since r t′
 
 -- The fields of a record, from behind its `{` to behind its `}`; `paths` is 1 if a path stands before the record.
 abbrev pub fieldsTail : ℕ → List Symbol → List Symbol
 fieldsTail zero ss = row kinds.RECORD ∷ ss
 fieldsTail (suc n) ss = part ∷ row kinds.RECORD ∷ ss
 
-abbrev pub Fielded : List ℕ → Here → List ℕ → Limits → ℕ → ℕ → Read → List ℕ → Type 0
-Fielded s h t l start paths r t′ =
-    (f : Phrase) (d : Counts) (ss : List Symbol) (ks : List Left) (e k : ℕ) (w : Option ℕ) → f .text ≡ s → d ≡ counts l
+abbrev pub Fielded : List ℕ → Here → List ℕ → Limits → ℕ → ℕ → ℕ → Read → List ℕ → Type 0
+Fielded s h t l start paths since r t′ =
+    (f : Phrase) (d : Counts) (ss : List Symbol) (ks : List Left) (e k : ℕ) (w : Option ℕ) → f .text ≡ s → f .from .rows ≡ since → d ≡ counts l
     → Going f (at d (a FIELDS ∷ closes close-brace ∷ fieldsTail paths ss) ∷ ks) h t (many start e paths w) 0 k
     ⊎ (Going f (at d (a FIELD ∷ a FIELDS-MORE ∷ closes close-brace ∷ fieldsTail paths ss) ∷ ks) h t (many start e paths w) 0 k × T (one-of (wordOf h) names))
     → Partly f r t′ (λ m h′. Going f (at (after closes-bracket d) ss ∷ ks) h′ t′ (lone (m .kind) (m .start) (m .end)) 0 k)
 
 -- The rows of n phrases that each end with the next, over the answer of the innermost: kind k, c children, and by its
--- index where each starts and its detail. A refusal stays what it is.
+-- index where each starts, where its rows began, and its detail. A refusal stays what it is.
 abbrev pub overRow : List ℕ → List ℕ → ℕ → ℕ → ℕ → Node → Row
 overRow starts details k c n m = record { kind = k; start = getD starts n 0; end = m .end; children = c; value = 0; detail = getD details n 0 }
 
@@ -161,10 +160,10 @@ overRead starts details k c zero r = r
 overRead starts details k c (suc n) (Done m h) = overRead starts details k c n (Done (nodeOf (overRow starts details k c n m)) (later h))
 overRead starts details k c (suc n) (Refused e) = Refused e
 
-unfoldable pub overTable : List ℕ → List ℕ → ℕ → ℕ → ℕ → Read → List ℕ → List ℕ
-overTable starts details k c zero r t = t
-overTable starts details k c (suc n) (Done m h) t = overTable starts details k c n (Done (nodeOf (overRow starts details k c n m)) (later h)) (putRow t (h .rows) (overRow starts details k c n m))
-overTable starts details k c (suc n) (Refused e) t = t
+unfoldable pub overTable : List ℕ → List ℕ → List ℕ → ℕ → ℕ → ℕ → Read → List ℕ → List ℕ
+overTable starts sinces details k c zero r t = t
+overTable starts sinces details k c (suc n) (Done m h) t = overTable starts sinces details k c n (Done (nodeOf (overRow starts details k c n m)) (later h)) (putOver t h (overRow starts details k c n m) (getD sinces n 0))
+overTable starts sinces details k c (suc n) (Refused e) t = t
 
 -- An `if`, `while`, `for` or `match` from behind that word, which starts at `start`, to its end; ss is what its rule asks for then.
 abbrev pub Headed : List Symbol → List ℕ → Here → List ℕ → Limits → ℕ → Read → List ℕ → Type 0
@@ -193,9 +192,9 @@ Tested s h t l r t′ =
     → Going f (at d (a (EXPR no-records) ∷ behind BLOCK ∷ ss) ∷ []) h t (many x e c (some w)) 0 k
     → Partly f r t′ (λ m h′. Going f (at d ss ∷ []) h′ t′ (many x (m .end) (c + 1 + 1) (some w)) 0 (k + 1 + 1))
 
-abbrev pub Elsed : List ℕ → Here → List ℕ → Limits → ℕ → Read → List ℕ → Type 0
-Elsed s h t l start r t′ =
-    (f : Phrase) (d : Counts) (e w k : ℕ) → f .text ≡ s
+abbrev pub Elsed : List ℕ → Here → List ℕ → Limits → ℕ → ℕ → Read → List ℕ → Type 0
+Elsed s h t l start since r t′ =
+    (f : Phrase) (d : Counts) (e w k : ℕ) → f .text ≡ s → f .from .rows ≡ since
     → Going f (at (counts l) (a ELSE-PART ∷ []) ∷ at d (row kinds.IF ∷ []) ∷ []) h t (many start e 2 (some w)) 0 (k + 4)
     → Answers f 1 r t′
 
@@ -203,9 +202,9 @@ abbrev pub linked : List ℕ → Here → Limits → Read
 linked s h l = under s h (cond (eqb (l .chain) 0) 0 (l .heads))
 
 -- The arms of a match, from behind its `{` to its end; one arm, and whether another may follow; an arm's body.
-abbrev pub Matched : List ℕ → Here → List ℕ → Limits → ℕ → Read → List ℕ → Type 0
-Matched s h t l start r t′ =
-    (f : Phrase) (d : Counts) (e : ℕ) (w : Option ℕ) → f .text ≡ s → inside body d ≡ counts l
+abbrev pub Matched : List ℕ → Here → List ℕ → Limits → ℕ → ℕ → Read → List ℕ → Type 0
+Matched s h t l start since r t′ =
+    (f : Phrase) (d : Counts) (e : ℕ) (w : Option ℕ) → f .text ≡ s → f .from .rows ≡ since → inside body d ≡ counts l
     → Going f (at d (behind ARMS ∷ closes close-brace ∷ row kinds.MATCH ∷ []) ∷ []) h t (many start e 1 w) 0 1
     → Answers f 1 r t′
 

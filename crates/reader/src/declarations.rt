@@ -68,6 +68,7 @@ fn constant(s: &[u8], table: &mut [u64], here: Here, limits: Limits) -> Read
         table,
         plain_row(kind::CONST, word.start, ending.end, 3),
         next,
+        here.rows,
     )
 }
 
@@ -104,7 +105,7 @@ fn function(s: &[u8], table: &mut [u64], here: Here, limits: Limits) -> Read
         params.children + ty.children + 2,
         ty.children,
     );
-    finish(table, row, next)
+    finish(table, row, next, here.rows)
 }
 
 // `filter` or `filtermap name (params) block`
@@ -136,7 +137,7 @@ fn filter_map(s: &[u8], table: &mut [u64], here: Here, limits: Limits) -> Read
         params.children + 2,
         filter_detail(here.word()),
     );
-    finish(table, row, next)
+    finish(table, row, next, here.rows)
 }
 
 fn filter_detail(word: u64) -> u64
@@ -164,7 +165,12 @@ fn test(s: &[u8], table: &mut [u64], here: Here, limits: Limits) -> Read
     let Read::Done(body, next) = r else {
         return r;
     };
-    finish(table, plain_row(kind::TEST, word.start, body.end, 2), next)
+    finish(
+        table,
+        plain_row(kind::TEST, word.start, body.end, 2),
+        next,
+        here.rows,
+    )
 }
 
 pub fn declaration(s: &[u8], table: &mut [u64], here: Here, limits: Limits) -> Read

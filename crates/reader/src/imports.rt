@@ -40,7 +40,7 @@ fn import_path(s: &[u8], table: &mut [u64], at: Here, limits: Limits) -> Read
             return r;
         };
         if behind.word() == word::CURLY_LEFT {
-            return import_group(s, table, behind, limits, first.start, children);
+            return import_group(s, table, behind, limits, first.start, children, at.rows);
         }
         if !is_path_item(behind.word()) {
             return unusable(behind);
@@ -57,6 +57,7 @@ fn import_path(s: &[u8], table: &mut [u64], at: Here, limits: Limits) -> Read
         table,
         plain_row(kind::IMPORT_PATH, first.start, end, children),
         here,
+        at.rows,
     )
 }
 
@@ -68,9 +69,10 @@ fn import_group(
     limits: Limits,
     start: usize,
     items: u64,
+    since: usize,
 ) -> Read
     requires { ⌜ (Stands (now s) at) × (wordOf at ≡ open-brace) × (items ≤ at .rows) ⌝ }
-    ensures { λ r. ⌜ Grouped (now (s .entry)) at (now (table .entry)) limits start items r (now (table .exit)) ⌝ }
+    ensures { λ r. ⌜ Grouped (now (s .entry)) at (now (table .entry)) limits start items since r (now (table .exit)) ⌝ }
 {
     let r = open(s, at, word::CURLY_LEFT, limits);
     let Read::Done(_, inside) = r else {
@@ -86,7 +88,7 @@ fn import_group(
         };
         children += 1;
         if next.word() != word::COMMA {
-            return braced(s, table, next, kind::IMPORT_PATH, start, children, 0);
+            return braced(s, table, next, kind::IMPORT_PATH, start, children, 0, since);
         }
         let r = take(s, next);
         let Read::Done(_, after) = r else {
@@ -128,5 +130,6 @@ fn imported(s: &[u8], table: &mut [u64], here: Here, limits: Limits) -> Read
         table,
         plain_row(kind::IMPORT, found.start, found.end, 1),
         next,
+        here.rows,
     )
 }

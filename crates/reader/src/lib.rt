@@ -126,7 +126,7 @@ fn assign_expr(s: &[u8], table: &mut [u64], here: Here, limits: Limits, records:
         2,
         assign_detail(sign.word()),
     );
-    finish(table, row, next)
+    finish(table, row, next, here.rows)
 }
 
 // Any number of `return`, `accept`, `reject`: where one stands behind another, its row is over that one's. The last takes an expr
@@ -136,6 +136,7 @@ fn return_expr(s: &[u8], table: &mut [u64], at: Here, limits: Limits, records: b
     ensures { λ r. ⌜ Answers (the (now (s .entry)) (counts limits) (EXPR records) at (now (table .entry))) 1 r (now (table .exit)) ⌝ }
 {
     let mut starts: [u16; 32] = [0; 32];
+    let mut sinces: [u32; 32] = [0; 32];
     let mut details: [u8; 32] = [0; 32];
     let mut count: usize = 0;
     let mut here = at;
@@ -149,8 +150,8 @@ fn return_expr(s: &[u8], table: &mut [u64], at: Here, limits: Limits, records: b
         inner = inner.signed();
         if ends_return(next.word(), records) {
             let row = detail_row(kind::RETURN, word.start, word.end, 0, detail);
-            let r = finish(table, row, next);
-            return around(table, &starts, &details, count, kind::RETURN, 1, r);
+            let r = finish(table, row, next, here.rows);
+            return around(table, &starts, &sinces, &details, count, kind::RETURN, 1, r);
         }
         if return_detail(next.word()) == 0 {
             let r = assign_expr(s, table, next, inner, records);
@@ -158,10 +159,11 @@ fn return_expr(s: &[u8], table: &mut [u64], at: Here, limits: Limits, records: b
                 return r;
             };
             let row = detail_row(kind::RETURN, word.start, value.end, 1, detail);
-            let r = finish(table, row, behind);
-            return around(table, &starts, &details, count, kind::RETURN, 1, r);
+            let r = finish(table, row, behind, here.rows);
+            return around(table, &starts, &sinces, &details, count, kind::RETURN, 1, r);
         }
         starts[count] = word.start as u16;
+        sinces[count] = here.rows as u32;
         details[count] = detail as u8;
         count += 1;
         here = next;
@@ -196,7 +198,7 @@ fn binop_expr(s: &[u8], table: &mut [u64], at: Here, limits: Limits, records: bo
         };
         let behind = look(s, next, here.rows);
         let right = factor(s, table, behind, after, records, sign);
-        let r = joined(table, left, right, word);
+        let r = joined(table, left, right, word, at.rows);
         let Read::Done(both, next) = r else {
             return r;
         };
@@ -207,14 +209,14 @@ fn binop_expr(s: &[u8], table: &mut [u64], at: Here, limits: Limits, records: bo
 }
 
 // The row of a sign between what was read and what was read behind it.
-fn joined(table: &mut [u64], left: Node, right: Read, word: u64) -> Read
-    ensures { λ r. ⌜ (r ≡ joinedRead left word right) × (now (table .exit) ≡ joinedTable left word right (now (table .entry))) ⌝ }
+fn joined(table: &mut [u64], left: Node, right: Read, word: u64, since: usize) -> Read
+    ensures { λ r. ⌜ (r ≡ joinedRead left word right) × (now (table .exit) ≡ joinedTable left word since right (now (table .entry))) ⌝ }
 {
     let Read::Done(found, next) = right else {
         return right;
     };
     let row = detail_row(kind::BINARY, left.start, found.end, 2, binary_detail(word));
-    finish(table, row, next)
+    finish(table, row, next, since)
 }
 
 // How tight a sign behind one of a level may bind: comparisons aren't chained.
@@ -255,16 +257,18 @@ fn operand(s: &[u8], table: &mut [u64], at: Here, limits: Limits, records: bool)
     requires { ⌜ Stands (now s) at ⌝ }
     ensures { λ r. ⌜ Answers (the (now (s .entry)) (counts limits) (OPERAND records) at (now (table .entry))) 1 r (now (table .exit)) ⌝ }
 {
-    let signed = is_sign(at.word());
+    let sign = at.word();
+    let signed = is_sign(sign);
     let mut here = at;
     let mut inner = limits;
+    let mut start = 0;
     if signed {
         let step = at.step;
-        let Step::Taken(_, start, next) = step else {
+        let Step::Taken(_, begin, next) = step else {
             return unusable(at);
         };
         if limits.signs == 0 {
-            return refuse(refusal::TOO_DEEP, start, next.at);
+            return refuse(refusal::TOO_DEEP, begin, next.at);
         }
         let step = next.step(s);
         here = Here {
@@ -273,6 +277,7 @@ fn operand(s: &[u8], table: &mut [u64], at: Here, limits: Limits, records: bool)
             rows: at.rows,
         };
         inner = limits.signed();
+        start = begin;
     }
     let r = if signed {
         operand(s, table, here, inner, records)
@@ -285,11 +290,8 @@ fn operand(s: &[u8], table: &mut [u64], at: Here, limits: Limits, records: bool)
     let Read::Done(found, next) = r else {
         return r;
     };
-    let step = at.step;
-    let Step::Taken(word, start, _) = step else {
-        return unusable(at);
-    };
-    finish(table, plain_row(sign_kind(word), start, found.end, 1), next)
+    let row = plain_row(sign_kind(sign), start, found.end, 1);
+    finish(table, row, next, at.rows)
 }
 
 // An atom with any `?`, `( list of exprs )`, `. name`.
@@ -307,7 +309,7 @@ fn access(s: &[u8], table: &mut [u64], at: Here, limits: Limits, records: bool) 
     let mut left = first;
     let mut here = next;
     while is_postfix(here.word()) {
-        let r = postfix(s, table, left, here, limits);
+        let r = postfix(s, table, left, here, limits, at.rows);
         let Read::Done(found, next) = r else {
             return r;
         };
@@ -318,27 +320,34 @@ fn access(s: &[u8], table: &mut [u64], at: Here, limits: Limits, records: bool) 
 }
 
 // What may stand behind an atom: `?`, `( list of exprs )`, `. name`.
-fn postfix(s: &[u8], table: &mut [u64], left: Node, here: Here, limits: Limits) -> Read
+fn postfix(
+    s: &[u8],
+    table: &mut [u64],
+    left: Node,
+    here: Here,
+    limits: Limits,
+    since: usize,
+) -> Read
     requires { ⌜ (Stands (now s) here) × (T (one-of (wordOf here) postfixSigns)) ⌝ }
-    ensures { λ r. ⌜ (Behind (now (s .entry)) left here (now (table .entry)) limits r (now (table .exit))) × (onward here r) ⌝ }
+    ensures { λ r. ⌜ (Behind (now (s .entry)) left here (now (table .entry)) limits since r (now (table .exit))) × (onward here r) ⌝ }
 {
     if here.word() == word::QUESTION_MARK {
-        return question(s, table, left, here, kind::QUESTION);
+        return question(s, table, left, here, kind::QUESTION, since);
     }
     if here.word() != word::ROUND_LEFT {
-        return field_access(s, table, left, here);
+        return field_access(s, table, left, here, since);
     }
     let r = args(s, table, here, limits);
     let Read::Done(list, next) = r else {
         return r;
     };
     let row = plain_row(kind::CALL, left.start, list.end, list.children + 1);
-    finish(table, row, next)
+    finish(table, row, next, since)
 }
 
-fn field_access(s: &[u8], table: &mut [u64], left: Node, here: Here) -> Read
+fn field_access(s: &[u8], table: &mut [u64], left: Node, here: Here, since: usize) -> Read
     requires { ⌜ (Stands (now s) here) × (wordOf here ≡ dot) ⌝ }
-    ensures { λ r. ⌜ (AnyBehind (now (s .entry)) left here (now (table .entry)) r (now (table .exit))) × (onward here r) ⌝ }
+    ensures { λ r. ⌜ (AnyBehind (now (s .entry)) left here (now (table .entry)) since r (now (table .exit))) × (onward here r) ⌝ }
 {
     let r = take(s, here);
     let Read::Done(_, next) = r else {
@@ -352,6 +361,7 @@ fn field_access(s: &[u8], table: &mut [u64], left: Node, here: Here) -> Read
         table,
         plain_row(kind::ACCESS, left.start, name.end, 2),
         next,
+        since,
     )
 }
 
@@ -437,7 +447,7 @@ fn literal(s: &[u8], table: &mut [u64], here: Here) -> Read
         value,
         detail,
     };
-    finish(table, row, look(s, cursor, here.rows))
+    finish(table, row, look(s, cursor, here.rows), here.rows)
 }
 
 // A string with expressions inside: text, then a hole with one expr, and so on to the quote.
@@ -459,7 +469,7 @@ fn f_string(s: &[u8], table: &mut [u64], at: Here, limits: Limits) -> Read
         children += text.children;
         if text.kind == word::LAST_TEXT {
             let row = plain_row(kind::F_STRING, quote.start, text.end, children);
-            return finish(table, row, next);
+            return finish(table, row, next, at.rows);
         }
         let r = open(s, next, word::CURLY_LEFT, limits);
         let Read::Done(_, inside) = r else {
@@ -496,7 +506,7 @@ fn path_expr(s: &[u8], table: &mut [u64], here: Here, limits: Limits, records: b
     let Read::Done(_, inside) = r else {
         return r;
     };
-    record(s, table, inside, limits.opened(), found.start, 1)
+    record(s, table, inside, limits.opened(), found.start, 1, here.rows)
 }
 
 // `( expr )` gives no row and widens no span.
@@ -537,15 +547,23 @@ fn braces(s: &[u8], table: &mut [u64], here: Here, limits: Limits) -> Read
         return r;
     };
     if behind.word() == word::COLON {
-        return record(s, table, inside, inner, opening.start, 0);
+        return record(s, table, inside, inner, opening.start, 0, here.rows);
     }
     stmts(s, table, inside, inner, opening.start)
 }
 
 // The fields of a record from behind its `{` on; `paths` is 1 if a path stands before that.
-fn record(s: &[u8], table: &mut [u64], at: Here, limits: Limits, start: usize, paths: u64) -> Read
+fn record(
+    s: &[u8],
+    table: &mut [u64],
+    at: Here,
+    limits: Limits,
+    start: usize,
+    paths: u64,
+    since: usize,
+) -> Read
     requires { ⌜ (Stands (now s) at) × (limits .signs ≡ 32) × (paths ≤ 1) ⌝ }
-    ensures { λ r. ⌜ Fielded (now (s .entry)) at (now (table .entry)) limits start paths r (now (table .exit)) ⌝ }
+    ensures { λ r. ⌜ Fielded (now (s .entry)) at (now (table .entry)) limits start paths since r (now (table .exit)) ⌝ }
 {
     let mut here = at;
     let mut children = paths;
@@ -556,7 +574,7 @@ fn record(s: &[u8], table: &mut [u64], at: Here, limits: Limits, start: usize, p
         };
         children += 1;
         if next.word() != word::COMMA {
-            return braced(s, table, next, kind::RECORD, start, children, paths);
+            return braced(s, table, next, kind::RECORD, start, children, paths, since);
         }
         let r = take(s, next);
         let Read::Done(_, after) = r else {
@@ -564,7 +582,7 @@ fn record(s: &[u8], table: &mut [u64], at: Here, limits: Limits, start: usize, p
         };
         here = after;
     }
-    braced(s, table, here, kind::RECORD, start, children, paths)
+    braced(s, table, here, kind::RECORD, start, children, paths, since)
 }
 
 // `name : expr`
@@ -588,6 +606,7 @@ fn field(s: &[u8], table: &mut [u64], here: Here, limits: Limits) -> Read
         table,
         plain_row(kind::FIELD, name.start, value.end, 2),
         next,
+        here.rows,
     )
 }
 
@@ -604,18 +623,25 @@ fn four(s: &[u8], table: &mut [u64], here: Here, limits: Limits) -> Read
     let Read::Done(word, next) = r else {
         return r;
     };
+    let start = word.start;
+    let since = here.rows;
     if here.word() == word::IF {
-        return if_else(s, table, next, limits, word.start);
+        return if_else(s, table, next, limits, start);
     }
     if here.word() == word::MATCH {
-        return match_expr(s, table, next, limits, word.start);
+        return match_expr(s, table, next, limits, start);
     }
     if here.word() == word::WHILE {
         let r = cond(s, table, next, limits);
         let Read::Done(body, next) = r else {
             return r;
         };
-        return finish(table, plain_row(kind::WHILE, word.start, body.end, 2), next);
+        return finish(
+            table,
+            plain_row(kind::WHILE, start, body.end, 2),
+            next,
+            since,
+        );
     }
     let r = name_in(s, table, next);
     let Read::Done(_, next) = r else {
@@ -625,7 +651,7 @@ fn four(s: &[u8], table: &mut [u64], here: Here, limits: Limits) -> Read
     let Read::Done(body, next) = r else {
         return r;
     };
-    finish(table, plain_row(kind::FOR, word.start, body.end, 3), next)
+    finish(table, plain_row(kind::FOR, start, body.end, 3), next, since)
 }
 
 // `name in` behind a `for`.
@@ -647,7 +673,9 @@ fn if_else(s: &[u8], table: &mut [u64], at: Here, limits: Limits, start: usize) 
     ensures { λ r. ⌜ Headed afterIf (now (s .entry)) at (now (table .entry)) limits start r (now (table .exit)) ⌝ }
 {
     let mut starts: [u16; 32] = [0; 32];
+    let mut sinces: [u32; 32] = [0; 32];
     let none: [u8; 0] = [0; 0];
+    let mut since = at.rows;
     let mut count: usize = 0;
     let mut here = at;
     let mut inner = limits;
@@ -658,22 +686,24 @@ fn if_else(s: &[u8], table: &mut [u64], at: Here, limits: Limits, start: usize) 
             return r;
         };
         if next.word() != word::ELSE {
-            let r = finish(table, plain_row(kind::IF, begin, body.end, 2), next);
-            return around(table, &starts, &none, count, kind::IF, 3, r);
+            let r = finish(table, plain_row(kind::IF, begin, body.end, 2), next, since);
+            return around(table, &starts, &sinces, &none, count, kind::IF, 3, r);
         }
         let r = take(s, next);
         let Read::Done(_, behind) = r else {
             return r;
         };
         if behind.word() != word::IF {
-            let r = elses(s, table, behind, inner, begin);
-            return around(table, &starts, &none, count, kind::IF, 3, r);
+            let r = elses(s, table, behind, inner, begin, since);
+            return around(table, &starts, &sinces, &none, count, kind::IF, 3, r);
         }
         let r = else_if(s, behind, inner);
         let Read::Done(word, next) = r else {
             return r;
         };
         starts[count] = begin as u16;
+        sinces[count] = since as u32;
+        since = behind.rows;
         count += 1;
         here = next;
         inner = inner.chained();
@@ -694,9 +724,16 @@ fn cond(s: &[u8], table: &mut [u64], at: Here, limits: Limits) -> Read
 }
 
 // The block behind an `else`, and the row of its `if`.
-fn elses(s: &[u8], table: &mut [u64], here: Here, limits: Limits, start: usize) -> Read
+fn elses(
+    s: &[u8],
+    table: &mut [u64],
+    here: Here,
+    limits: Limits,
+    start: usize,
+    since: usize,
+) -> Read
     requires { ⌜ (Stands (now s) here) × (wordOf here ≢ 'if') ⌝ }
-    ensures { λ r. ⌜ Elsed (now (s .entry)) here (now (table .entry)) limits start r (now (table .exit)) ⌝ }
+    ensures { λ r. ⌜ Elsed (now (s .entry)) here (now (table .entry)) limits start since r (now (table .exit)) ⌝ }
 {
     if here.word() != word::CURLY_LEFT {
         return unusable(here);
@@ -705,7 +742,7 @@ fn elses(s: &[u8], table: &mut [u64], here: Here, limits: Limits, start: usize) 
     let Read::Done(body, next) = r else {
         return r;
     };
-    finish(table, plain_row(kind::IF, start, body.end, 3), next)
+    finish(table, plain_row(kind::IF, start, body.end, 3), next, since)
 }
 
 // An `if` behind `else`.
@@ -737,11 +774,20 @@ fn match_expr(s: &[u8], table: &mut [u64], at: Here, limits: Limits, start: usiz
         children += 1;
         match r {
             Arm::Followed(next) => here = next,
-            Arm::Last(next) => return braced(s, table, next, kind::MATCH, start, children, 0),
+            Arm::Last(next) => return braced(
+                s,
+                table,
+                next,
+                kind::MATCH,
+                start,
+                children,
+                0,
+                at.rows,
+            ),
             Arm::Refused(why) => return Read::Refused(why),
         }
     }
-    braced(s, table, here, kind::MATCH, start, children, 0)
+    braced(s, table, here, kind::MATCH, start, children, 0, at.rows)
 }
 
 // A pattern, perhaps a guard, `=>`, a body, and its comma.
@@ -772,7 +818,7 @@ fn arm(s: &[u8], table: &mut [u64], here: Here, limits: Limits) -> Arm
         test.children + 2,
         test.children,
     );
-    let r = finish(table, row, next);
+    let r = finish(table, row, next, here.rows);
     let Read::Done(_, next) = r else {
         return last_arm(r);
     };
@@ -861,11 +907,20 @@ fn stmts(s: &[u8], table: &mut [u64], at: Here, limits: Limits, start: usize) ->
                 here = next;
                 last = 1;
             }
-            Stmt::Last(next) => return braced(s, table, next, kind::BLOCK, start, children, 1),
+            Stmt::Last(next) => return braced(
+                s,
+                table,
+                next,
+                kind::BLOCK,
+                start,
+                children,
+                1,
+                at.rows,
+            ),
             Stmt::Refused(why) => return Read::Refused(why),
         }
     }
-    braced(s, table, here, kind::BLOCK, start, children, last)
+    braced(s, table, here, kind::BLOCK, start, children, last, at.rows)
 }
 
 // A statement and how it ended.
@@ -939,7 +994,7 @@ fn let_stmt(s: &[u8], table: &mut [u64], here: Here, limits: Limits) -> Read
         ty.children + 2,
         ty.children,
     );
-    finish(table, row, next)
+    finish(table, row, next, here.rows)
 }
 
 // Declarations up to the end of the source, and the tree's row over them.
@@ -963,7 +1018,7 @@ fn tree(s: &[u8], table: &mut [u64]) -> Read
     if here.word() != word::NONE {
         return unusable(here);
     }
-    finish(table, plain_row(kind::TREE, 0, s.len(), children), here)
+    finish(table, plain_row(kind::TREE, 0, s.len(), children), here, 0)
 }
 
 // One expression and the end of the source.

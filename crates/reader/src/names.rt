@@ -16,7 +16,7 @@ use words::is_path_item;
 
 // A token that is a name's row.
 pub fn item(s: &[u8], table: &mut [u64], here: Here) -> Read
-    ensures { λ r. ⌜ Wrote (now (s .entry)) here (now (table .entry)) (itemRow here) r (now (table .exit)) ⌝ }
+    ensures { λ r. ⌜ Wrote (now (s .entry)) here (now (table .entry)) (itemRow here) (here .rows) r (now (table .exit)) ⌝ }
 {
     let r = take(s, here);
     let Read::Done(token, next) = r else {
@@ -26,6 +26,7 @@ pub fn item(s: &[u8], table: &mut [u64], here: Here) -> Read
         table,
         plain_row(kind::NAME, token.start, token.end, 0),
         next,
+        here.rows,
     )
 }
 
@@ -77,5 +78,6 @@ pub fn path(s: &[u8], table: &mut [u64], at: Here) -> Read
         table,
         plain_row(kind::PATH, first.start, end, children),
         here,
+        at.rows,
     )
 }

@@ -89,8 +89,9 @@ pub fn braced(
     start: usize,
     children: u64,
     value: u64,
+    since: usize,
 ) -> Read
-    ensures { λ r. ⌜ Closed (now (s .entry)) here (now (table .entry)) close-brace (record { kind = kind; start = start; end = endOf here; children = children; value = value; detail = 0 }) r (now (table .exit)) ⌝ }
+    ensures { λ r. ⌜ Closed (now (s .entry)) here (now (table .entry)) close-brace (record { kind = kind; start = start; end = endOf here; children = children; value = value; detail = 0 }) since r (now (table .exit)) ⌝ }
 {
     let r = expect(s, here, word::CURLY_RIGHT);
     let Read::Done(brace, next) = r else {
@@ -100,11 +101,18 @@ pub fn braced(
         table,
         valued_row(kind, start, brace.end, children, value),
         next,
+        since,
     )
 }
 
 // What a list holds at an index, or 0.
 fn place_in(list: &[u16], i: usize) -> usize
+    ensures { λ r. ⌜ r ≡ getD (now (list .entry)) i 0 ⌝ }
+{
+    if i < list.len() { list[i] as usize } else { 0 }
+}
+
+fn rows_in(list: &[u32], i: usize) -> usize
     ensures { λ r. ⌜ r ≡ getD (now (list .entry)) i 0 ⌝ }
 {
     if i < list.len() { list[i] as usize } else { 0 }
@@ -120,13 +128,14 @@ fn detail_in(list: &[u8], i: usize) -> u64
 pub fn around(
     table: &mut [u64],
     starts: &[u16],
+    sinces: &[u32],
     details: &[u8],
     count: usize,
     kind: u64,
     children: u64,
     inner: Read,
 ) -> Read
-    ensures { λ r. ⌜ (r ≡ overRead (now (starts .entry)) (now (details .entry)) kind children count inner) × (now (table .exit) ≡ overTable (now (starts .entry)) (now (details .entry)) kind children count inner (now (table .entry))) ⌝ }
+    ensures { λ r. ⌜ (r ≡ overRead (now (starts .entry)) (now (details .entry)) kind children count inner) × (now (table .exit) ≡ overTable (now (starts .entry)) (now (sinces .entry)) (now (details .entry)) kind children count inner (now (table .entry))) ⌝ }
 {
     let Read::Done(first, next) = inner else {
         return inner;
@@ -143,7 +152,7 @@ pub fn around(
             children,
             detail_in(details, n),
         );
-        let r = finish(table, row, here);
+        let r = finish(table, row, here, rows_in(sinces, n));
         let Read::Done(over, next) = r else {
             return r;
         };

@@ -42,6 +42,7 @@ pub fn pattern(s: &[u8], table: &mut [u64], here: Here, limits: Limits) -> Read
             table,
             plain_row(kind::VARIANT, name.start, name.end, 1),
             next,
+            here.rows,
         );
     }
     let r = names(s, table, next, limits);
@@ -49,7 +50,7 @@ pub fn pattern(s: &[u8], table: &mut [u64], here: Here, limits: Limits) -> Read
         return r;
     };
     let row = valued_row(kind::VARIANT, name.start, list.end, list.children + 1, 1);
-    finish(table, row, next)
+    finish(table, row, next, here.rows)
 }
 
 fn any_pattern(s: &[u8], table: &mut [u64], here: Here) -> Read
@@ -60,7 +61,12 @@ fn any_pattern(s: &[u8], table: &mut [u64], here: Here) -> Read
     let Read::Done(token, next) = r else {
         return r;
     };
-    finish(table, plain_row(kind::ANY, token.start, token.end, 0), next)
+    finish(
+        table,
+        plain_row(kind::ANY, token.start, token.end, 0),
+        next,
+        here.rows,
+    )
 }
 
 // `( list of names )`

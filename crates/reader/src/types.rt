@@ -44,7 +44,7 @@ pub fn type_expr(s: &[u8], table: &mut [u64], at: Here, limits: Limits) -> Read
     let mut found = first;
     let mut here = next;
     while here.word() == word::QUESTION_MARK {
-        let r = question(s, table, found, here, kind::OPTION);
+        let r = question(s, table, found, here, kind::OPTION, at.rows);
         let Read::Done(marked, next) = r else {
             return r;
         };
@@ -55,14 +55,21 @@ pub fn type_expr(s: &[u8], table: &mut [u64], at: Here, limits: Limits) -> Read
 }
 
 // A `?` behind a type or an expr.
-pub fn question(s: &[u8], table: &mut [u64], left: Node, here: Here, kind: u64) -> Read
-    ensures { λ r. ⌜ Wrote (now (s .entry)) here (now (table .entry)) (plainRow kind (left .start) (endOf here) 1) r (now (table .exit)) ⌝ }
+pub fn question(
+    s: &[u8],
+    table: &mut [u64],
+    left: Node,
+    here: Here,
+    kind: u64,
+    since: usize,
+) -> Read
+    ensures { λ r. ⌜ Wrote (now (s .entry)) here (now (table .entry)) (plainRow kind (left .start) (endOf here) 1) since r (now (table .exit)) ⌝ }
 {
     let r = take(s, here);
     let Read::Done(mark, next) = r else {
         return r;
     };
-    finish(table, plain_row(kind, left.start, mark.end, 1), next)
+    finish(table, plain_row(kind, left.start, mark.end, 1), next, since)
 }
 
 fn type_base(s: &[u8], table: &mut [u64], here: Here, limits: Limits) -> Read
@@ -96,6 +103,7 @@ fn never_type(s: &[u8], table: &mut [u64], here: Here) -> Read
         table,
         plain_row(kind::NEVER, token.start, token.end, 0),
         next,
+        here.rows,
     )
 }
 
@@ -115,6 +123,7 @@ fn unit_type(s: &[u8], table: &mut [u64], here: Here, limits: Limits) -> Read
         table,
         plain_row(kind::UNIT, opening.start, closing.end, 0),
         next,
+        here.rows,
     )
 }
 
@@ -127,7 +136,7 @@ fn record_type(s: &[u8], table: &mut [u64], here: Here, limits: Limits) -> Read
         return r;
     };
     let row = plain_row(kind::RECORD_TYPE, list.start, list.end, list.children);
-    finish(table, row, next)
+    finish(table, row, next, here.rows)
 }
 
 // A path with perhaps `[ list of types ]`.
@@ -144,6 +153,7 @@ fn path_type(s: &[u8], table: &mut [u64], here: Here, limits: Limits) -> Read
             table,
             plain_row(kind::PATH_TYPE, base.start, base.end, 1),
             next,
+            here.rows,
         );
     }
     let r = types(s, table, next, limits);
@@ -151,7 +161,7 @@ fn path_type(s: &[u8], table: &mut [u64], here: Here, limits: Limits) -> Read
         return r;
     };
     let row = valued_row(kind::PATH_TYPE, base.start, list.end, list.children + 1, 1);
-    finish(table, row, next)
+    finish(table, row, next, here.rows)
 }
 
 // `[ list of types ]`
@@ -236,6 +246,7 @@ fn typed_name(s: &[u8], table: &mut [u64], here: Here, limits: Limits) -> Read
         table,
         plain_row(kind::TYPED_NAME, name.start, ty.end, 2),
         next,
+        here.rows,
     )
 }
 

@@ -1,10 +1,14 @@
-// The lent table of rows: six numbers a row.
+// The lent table of rows: seven numbers a row.
 
 ghost use mathlib.Core.Path.{_≡_};
 ghost use Rattle.rows.specs.Rows.{putRow, zeroed};
 
 pub mod kind;
 
+// The numbers of a row.
+pub const WIDTH: usize = 7;
+
+// A row but for its size.
 pub struct Row {
     pub kind: u64,
     pub start: usize,
@@ -14,18 +18,19 @@ pub struct Row {
     pub detail: u64,
 }
 
-// Writes a row at its place, where it fits.
-pub fn put(table: &mut [u64], n: usize, row: Row)
-    ensures { λ r. ⌜ now (table .exit) ≡ putRow (now (table .entry)) n row ⌝ }
+// Writes a row of a size at its place, where it fits.
+pub fn put(table: &mut [u64], n: usize, row: Row, size: u64)
+    ensures { λ r. ⌜ now (table .exit) ≡ putRow (now (table .entry)) n row size ⌝ }
 {
-    if n < table.len() / 6 {
-        let i = n * 6;
+    if n < table.len() / WIDTH {
+        let i = n * WIDTH;
         table[i] = row.kind;
         table[i + 1] = row.start as u64;
         table[i + 2] = row.end as u64;
         table[i + 3] = row.children;
         table[i + 4] = row.value;
         table[i + 5] = row.detail;
+        table[i + 6] = size;
     }
 }
 

@@ -17,6 +17,7 @@ compare cases [OPTION ..] MODE ..        prints the cases that a mode makes
 compare sample COUNT SEED PROGRAM ..     prints cases of entry (c) with PROGRAM's answers (see vectors/README.md)
 
 LEFT and RIGHT: oracle, full, ours (by tools/batch), or the path of a program.
+Where both give the same rows, their sizes are counted anew.
 Modes:
   exhaustive ALPHABET LONGEST    every text of up to LONGEST bytes; \\n \\t \\r \\\\ \\xHH stand for bytes
   tokens LONGEST                 every text of up to LONGEST tokens of a fixed list

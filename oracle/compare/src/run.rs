@@ -89,6 +89,7 @@ pub struct Report {
     first_numbers: BTreeMap<u64, u64>,
     exact_room: u64,
     one_short: u64,
+    recounted: u64,
     classes: BTreeMap<String, (u64, String)>,
 }
 
@@ -199,6 +200,22 @@ fn numbers(line: &[u8]) -> impl Iterator<Item = u64> {
     text.split(' ').filter_map(|word| word.trim_end().parse().ok())
 }
 
+/// Whether each row's last number is 1 and those of its children, counted anew: rows wait on a stack for their parent, and
+/// one is left.
+fn sizes_hold(answer: &[u8]) -> bool {
+    let mut waiting: Vec<u64> = Vec::new();
+    for line in answer.split(|byte| *byte == b'\n').skip(1).filter(|line| !line.is_empty()) {
+        let row: Vec<u64> = numbers(line).collect();
+        let [_, _, _, children, _, _, size] = row[..] else { return false };
+        let Some(first) = waiting.len().checked_sub(children as usize) else { return false };
+        if waiting.drain(first..).sum::<u64>() + 1 != size {
+            return false;
+        }
+        waiting.push(size);
+    }
+    waiting.len() == 1
+}
+
 impl Report {
     fn batch(&mut self, options: &Options, batch: &Batch, left: &Answers, mut right: Answers) {
         for (i, case) in batch.cases.iter().enumerate() {
@@ -211,6 +228,12 @@ impl Report {
                 let source = &batch.input[case.source.clone()];
                 let class = options.gather.map(|gather| gather(source, &left[i], &right[i]));
                 self.difference(class, show(case, source), &left[i], &right[i]);
+            } else if matches!(case.entry, b'a' | b'b') && left[i].starts_with(b"accepted") {
+                self.recounted += 1;
+                if !sizes_hold(&left[i]) {
+                    let source = &batch.input[case.source.clone()];
+                    self.difference(None, show(case, source), &left[i], b"a size that the recount doesn't give");
+                }
             }
         }
     }
@@ -258,6 +281,7 @@ impl Report {
         let seen: Vec<_> = self.first_numbers.iter().map(|(n, count)| format!("{n}: {count}")).collect();
         println!("  codes or kinds in accepted answers: {}", seen.join(", "));
         println!("  room exact: {}, one too small: {}", self.exact_room, self.one_short);
+        println!("  tables with all sizes recounted: {}", self.recounted);
         println!("{} differences", self.differences);
     }
 }

@@ -2,7 +2,7 @@
 
 use std::panic::{AssertUnwindSafe, catch_unwind};
 
-use protocol::{Case, Found, Refusal, serve, time, write_bytes, write_float, write_refusal, write_rows};
+use protocol::{Case, Found, Refusal, Row, serve, time, write_bytes, write_float, write_refusal, write_rows};
 
 use crate::{
     ast::{Expr, FloatType, Literal},
@@ -98,13 +98,13 @@ fn tokens(source: &str) -> Result<Vec<[u64; 3]>, Refusal> {
 }
 
 /// (b): source to one expression.
-fn expression(source: &str) -> Result<Vec<[u64; 6]>, Refusal> {
+fn expression(source: &str) -> Result<Vec<Row>, Refusal> {
     let (expr, spans) = parsed(source)?;
     Ok(rows::expression(&spans, &expr))
 }
 
 /// (a): source to tree.
-fn tree(source: &str) -> Result<Vec<[u64; 6]>, Refusal> {
+fn tree(source: &str) -> Result<Vec<Row>, Refusal> {
     let mut spans = Spans::default();
     let (tree, _) = Parser::parse(0, &mut spans, source).map_err(|e| refusal(source, &e))?;
     Ok(rows::tree(&spans, source, &tree))

@@ -1,4 +1,4 @@
-//! The rows of document 01, and of document 02's C-11, from the Rust's tree: children before their parent, left to right.
+//! The rows of document 01, and of document 02's C-11 and C-14, from the Rust's tree: children before their parent, left to right.
 //!
 //! "A span runs from the first to the last byte of its tokens, but where a node begins or ends with a child, that
 //! child's row gives that end. Parentheses round an expr give no row and widen no span."
@@ -7,6 +7,8 @@
 //! 93 enum declaration, 94 variant of an enum; detail 14 of 20 is `**`.
 
 use std::net::IpAddr;
+
+use protocol::Row;
 
 use crate::{
     ast::{
@@ -21,7 +23,8 @@ use crate::{
     },
 };
 
-type Row = [u64; 6];
+/// Where a row says how many rows its subtree has.
+const SIZE: usize = 6;
 
 pub fn expression(spans: &Spans, expr: &Meta<Expr>) -> Vec<Row> {
     let mut rows = Rows { spans, list: Vec::new() };
@@ -76,8 +79,14 @@ fn flag(there: bool) -> u64 {
 
 impl Rows<'_> {
     fn put(&mut self, kind: u64, place: Place, children: usize, value: u64, detail: u64) -> Place {
-        self.list.push([kind, place.0 as u64, place.1 as u64, children as u64, value, detail]);
+        let size = self.size(children);
+        self.list.push([kind, place.0 as u64, place.1 as u64, children as u64, value, detail, size]);
         place
+    }
+
+    /// The rows of a subtree over the last so many children: one, and those of each child.
+    fn size(&self, children: usize) -> u64 {
+        (0..children).fold(1, |size, _| size + self.list[self.list.len() - size as usize][SIZE])
     }
 
     fn span(&self, of: impl Into<MetaId>) -> Place {

@@ -1,6 +1,8 @@
 //! Our own code behind the protocol: the compiled Rattle library, called as C calls it.
 
-use protocol::{Case, Refusal, serve, time, write_bytes, write_float, write_no_room, write_refusal, write_row};
+use protocol::{
+    Case, Refusal, WIDTH, serve, time, write_bytes, write_float, write_no_room, write_refusal, write_row,
+};
 
 mod word;
 
@@ -26,7 +28,7 @@ unsafe extern "C" {
     fn lekhyundo_tokens(source: *const u8, length: usize, room: usize, out: *mut u64, out_length: usize);
     /// out: 0 for a token, else 4, 5 or 11; start; end; code; word number.
     fn lekhyundo_step(source: *const u8, length: usize, at: u64, out: *mut u64, out_length: usize);
-    /// (a) and (b) into `table`, six numbers a row; answer: number, start, end, count.
+    /// (a) and (b) into `table`, seven numbers a row; answer: number, start, end, count.
     fn lekhyundo_tree(
         source: *const u8, length: usize, table: *mut u64, table_length: usize, answer: *mut u64, answer_length: usize,
     );
@@ -134,14 +136,14 @@ fn rows(case: &Case<'_>, out: &mut String) {
     let entry = if case.entry == b'a' { lekhyundo_tree } else { lekhyundo_expression };
     // No source has more than three rows to two bytes, and one.
     let room = case.room.min(case.source.len() as u64 * 3 / 2 + 2) as usize;
-    let mut table = vec![0xa5u64; room * 6 + case.source.len() % 6];
+    let mut table = vec![0xa5u64; room * WIDTH + case.source.len() % WIDTH];
     let answer = read(entry, case.source, &mut table);
     let [number, start, end, count] = answer;
-    let written = if number == 0 { count as usize * 6 } else { 0 };
+    let written = if number == 0 { count as usize * WIDTH } else { 0 };
     match number {
         0 => {
             out.push_str(&format!("accepted {count}\n"));
-            table[..written].chunks_exact(6).for_each(|row| write_row(out, row));
+            table[..written].chunks_exact(WIDTH).for_each(|row| write_row(out, row));
         }
         10 => write_no_room(out, count),
         _ => write_refusal(out, Refusal { number, start, end }),
@@ -206,7 +208,7 @@ fn time_trees(arguments: &[String]) -> std::io::Result<()> {
     let made = |source: &[u8]| read(lekhyundo_tree, source, &mut table.borrow_mut())[3];
     let count = |source: &[u8]| {
         let count = made(source);
-        table.borrow_mut().resize(count as usize * 6, 0);
+        table.borrow_mut().resize(count as usize * WIDTH, 0);
         count
     };
     time(arguments, count, |source| {

@@ -9,6 +9,12 @@ use std::{
     io::{self, BufRead, Read, Write},
 };
 
+/// The numbers of a row.
+pub const WIDTH: usize = 7;
+
+/// Kind, start, end, children, value, detail, and how many rows the subtree has (C-14).
+pub type Row = [u64; WIDTH];
+
 #[derive(Clone, Copy, Debug, PartialEq, Eq)]
 pub struct Refusal {
     pub number: u64,

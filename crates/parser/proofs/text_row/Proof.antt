@@ -1,4 +1,5 @@
 use mathlib.Core.Path.{refl, ap, _∙_}
+use Rattle.rows.specs.declared.Row.{Row}
 use Rattle.rows.specs.Rows.{putRow}
 use Rattle.parser.proofs.Pieces.{piece-bad, piece-empty, piece-row}
 use borrow.Author.Needs.{needs}
@@ -58,7 +59,7 @@ same-length : tie.Need-same-length
 same-length c = search needs
 
 returns-3 : tie.Need-returns-3
-returns-3 c = piece-row (c .before .before .before .before .before .before .before .before .before .before .before .before .before .before .before .args .s .now) (c .before .before .before .before .before .before .before .before .before .before .before .before .before .before .before .args .table .now) (c .before .before .before .before .before .before .before .before .before .before .before .before .before .before .before .args .rows) (c .before .before .before .before .before .before .before .before .before .before .before .before .before .before .before .args .start) (c .before .before .before .before .before .before .before .before .before .before .before .before .before .before .before .args .word) (c .before .before .before .before .before .before .before .before .before .before .before .before .before .before .before .args .end) (c .before .before .before .before .before .before .before .before .before .before .before .before .before .before .before .args .next) (c .before .before .before .before .before .before .before .before .before .before .before .text .ensures) (c .before .before .before .before .before .before .before .before .before .count .given .1) (c .before .before .before .before .before .before .before .if1 .left) (c .look2 .ensures) (c .before .row-more .ensures) (c .before .before .before .before .put .ensures ∙ ap (putRow (c .before .before .before .before .before .before .before .before .before .before .before .before .before .before .before .args .table .now) (c .before .before .before .before .before .before .before .before .before .before .before .before .before .before .before .args .rows)) (c .before .before .before .before .before .part-row .ensures))
+returns-3 c = piece-row (c .before .before .before .before .before .before .before .before .before .before .before .before .before .before .before .args .s .now) (c .before .before .before .before .before .before .before .before .before .before .before .before .before .before .before .args .table .now) (c .before .before .before .before .before .before .before .before .before .before .before .before .before .before .before .args .rows) (c .before .before .before .before .before .before .before .before .before .before .before .before .before .before .before .args .start) (c .before .before .before .before .before .before .before .before .before .before .before .before .before .before .before .args .word) (c .before .before .before .before .before .before .before .before .before .before .before .before .before .before .before .args .end) (c .before .before .before .before .before .before .before .before .before .before .before .before .before .before .before .args .next) (c .before .before .before .before .before .before .before .before .before .before .before .text .ensures) (c .before .before .before .before .before .before .before .before .before .count .given .1) (c .before .before .before .before .before .before .before .if1 .left) (c .look2 .ensures) (c .before .row-more .ensures) (c .before .before .before .before .put .ensures ∙ ap (λ (q : Row). putRow (c .before .before .before .before .before .before .before .before .before .before .before .before .before .before .before .args .table .now) (c .before .before .before .before .before .before .before .before .before .before .before .before .before .before .before .args .rows) q 1) (c .before .before .before .before .before .part-row .ensures))
 
 pub text-row-spec : {M : Type 1} → statement M
 text-row-spec =

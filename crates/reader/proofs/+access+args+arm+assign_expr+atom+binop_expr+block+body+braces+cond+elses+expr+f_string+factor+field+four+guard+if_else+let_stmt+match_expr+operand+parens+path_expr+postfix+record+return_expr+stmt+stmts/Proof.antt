@@ -156,15 +156,15 @@ use Rattle.reader.proofs.+access+args+arm+assign_expr+atom+binop_expr+b
 use Rattle.reader.proofs.+access+args+arm+assign_expr+atom+binop_expr+block+body+braces+cond+elses+expr+f_string+factor+field+four+guard+if_else+let_stmt+match_expr+operand+parens+path_expr+postfix+record+return_expr+stmt+stmts.Proof.Field.{field-identifier-requires, field-enum-known-r, field-enum-told, field-same-length, field-returns, field-expect-requires, field-enum-known-r-2, field-enum-told-2, field-same-length-2, field-returns-2, field-plain-requires, field-expr-requires, field-enum-known-r-3, field-enum-told-3, field-same-length-3, field-returns-3, field-plain-row-requires, field-finish-requires, field-same-length-4, field-returns-4}
 use Rattle.reader.proofs.+access+args+arm+assign_expr+atom+binop_expr+block+body+braces+cond+elses+expr+f_string+factor+field+four+guard+if_else+let_stmt+match_expr+operand+parens+path_expr+postfix+record+return_expr+stmt+stmts.Proof.Four.{four-word-requires, four-is-four-requires, four-unusable-requires, four-returns, four-unchained-requires, four-deeper-requires, four-enum-known-r, four-enum-told, four-returns-2, four-word-requires-2, four-if-else-requires, four-same-length, four-returns-3, four-word-requires-3, four-match-expr-requires, four-same-length-2, four-returns-4, four-word-requires-4, four-cond-requires, four-enum-known-r-2, four-enum-told-2, four-same-length-3, four-returns-5, four-plain-row-requires, four-finish-requires, four-same-length-4, four-returns-6, four-name-in-requires, four-enum-known-r-3, four-enum-told-3, four-same-length-5, four-returns-7, four-cond-requires-2, four-enum-known-r-4, four-enum-told-4, four-same-length-6, four-returns-8, four-plain-row-requires-2, four-finish-requires-2, four-same-length-7, four-returns-9}
 use Rattle.reader.proofs.+access+args+arm+assign_expr+atom+binop_expr+block+body+braces+cond+elses+expr+f_string+factor+field+four+guard+if_else+let_stmt+match_expr+operand+parens+path_expr+postfix+record+return_expr+stmt+stmts.Proof.Guard.{guard-word-requires, guard-part-requires, guard-returns, guard-take-requires, guard-enum-known-r, guard-enum-told, guard-returns-2, guard-plain-requires, guard-expr-requires, guard-enum-known-r-2, guard-enum-told-2, guard-same-length, guard-returns-3, guard-part-requires-2, guard-same-length-2, guard-returns-4}
-use Rattle.reader.proofs.+access+args+arm+assign_expr+atom+binop_expr+block+body+braces+cond+elses+expr+f_string+factor+field+four+guard+if_else+let_stmt+match_expr+operand+parens+path_expr+postfix+record+return_expr+stmt+stmts.Proof.IfElse.{if-else-loop-holds, if-else-cond-requires, if-else-enum-known-r, if-else-enum-told, if-else-same-length, if-else-returns, if-else-word-requires, if-else-plain-row-requires, if-else-finish-requires, if-else-slice-aggregate-around, if-else-slice-aggregate-around-2, if-else-around-requires, if-else-same-length-2, if-else-returns-2, if-else-take-requires, if-else-enum-known-r-2, if-else-enum-told-2, if-else-same-length-3, if-else-returns-3, if-else-word-requires-2, if-else-elses-requires, if-else-slice-aggregate-around-3, if-else-slice-aggregate-around-4, if-else-around-requires-2, if-else-same-length-4, if-else-returns-4, if-else-else-if-requires, if-else-enum-known-r-3, if-else-enum-told-3, if-else-same-length-5, if-else-returns-5, if-else-cast-starts, if-else-mul-starts, if-else-array-write-starts, if-else-add-count, if-else-chained-requires, if-else-loop-less, if-else-loop-again, if-else-Inv-loop, if-else-μ-loop}
+use Rattle.reader.proofs.+access+args+arm+assign_expr+atom+binop_expr+block+body+braces+cond+elses+expr+f_string+factor+field+four+guard+if_else+let_stmt+match_expr+operand+parens+path_expr+postfix+record+return_expr+stmt+stmts.Proof.IfElse.{if-else-loop-holds, if-else-cond-requires, if-else-enum-known-r, if-else-enum-told, if-else-same-length, if-else-returns, if-else-word-requires, if-else-plain-row-requires, if-else-finish-requires, if-else-slice-aggregate-around, if-else-slice-aggregate-around-2, if-else-around-requires, if-else-same-length-2, if-else-returns-2, if-else-take-requires, if-else-enum-known-r-2, if-else-enum-told-2, if-else-same-length-3, if-else-returns-3, if-else-word-requires-2, if-else-elses-requires, if-else-slice-aggregate-around-3, if-else-slice-aggregate-around-4, if-else-around-requires-2, if-else-same-length-4, if-else-returns-4, if-else-else-if-requires, if-else-enum-known-r-3, if-else-enum-told-3, if-else-same-length-5, if-else-returns-5, if-else-cast-starts, if-else-mul-starts, if-else-array-write-starts, if-else-add-count, if-else-chained-requires, if-else-loop-less, if-else-loop-again, if-else-Inv-loop, if-else-μ-loop, if-else-slice-aggregate-around-5, if-else-slice-aggregate-around-6, if-else-cast-sinces, if-else-mul-sinces, if-else-array-write-sinces}
 use Rattle.reader.proofs.+access+args+arm+assign_expr+atom+binop_expr+block+body+braces+cond+elses+expr+f_string+factor+field+four+guard+if_else+let_stmt+match_expr+operand+parens+path_expr+postfix+record+return_expr+stmt+stmts.Proof.LetStmt.{let-stmt-plain-requires, let-stmt-take-requires, let-stmt-enum-known-r, let-stmt-enum-told, let-stmt-returns, let-stmt-identifier-requires, let-stmt-enum-known-r-2, let-stmt-enum-told-2, let-stmt-same-length, let-stmt-returns-2, let-stmt-typing-requires, let-stmt-enum-known-r-3, let-stmt-enum-told-3, let-stmt-same-length-2, let-stmt-returns-3, let-stmt-expect-requires, let-stmt-enum-known-r-4, let-stmt-enum-told-4, let-stmt-same-length-3, let-stmt-returns-4, let-stmt-expr-requires, let-stmt-enum-known-r-5, let-stmt-enum-told-5, let-stmt-same-length-4, let-stmt-returns-5, let-stmt-expect-requires-2, let-stmt-enum-known-r-6, let-stmt-enum-told-6, let-stmt-same-length-5, let-stmt-returns-6, let-stmt-add-valued-row, let-stmt-valued-row-requires, let-stmt-finish-requires, let-stmt-same-length-6, let-stmt-returns-7}
 use Rattle.reader.proofs.+access+args+arm+assign_expr+atom+binop_expr+block+body+braces+cond+elses+expr+f_string+factor+field+four+guard+if_else+let_stmt+match_expr+operand+parens+path_expr+postfix+record+return_expr+stmt+stmts.Proof.MatchExpr.{match-expr-headed-requires, match-expr-expr-requires, match-expr-enum-known-r, match-expr-enum-told, match-expr-same-length, match-expr-returns, match-expr-open-requires, match-expr-enum-known-r-2, match-expr-enum-told-2, match-expr-same-length-2, match-expr-returns-2, match-expr-opened-requires, match-expr-loop-holds, match-expr-word-requires, match-expr-is-name-requires, match-expr-arm-requires, match-expr-add-children, match-expr-enum-known-r-3, match-expr-loop-less, match-expr-loop-again, match-expr-enum-known-r-4, match-expr-braced-requires, match-expr-same-length-3, match-expr-returns-3, match-expr-enum-known-r-5, match-expr-same-length-4, match-expr-returns-4, match-expr-braced-requires-2, match-expr-same-length-5, match-expr-returns-5, match-expr-Inv-loop, match-expr-μ-loop}
-use Rattle.reader.proofs.+access+args+arm+assign_expr+atom+binop_expr+block+body+braces+cond+elses+expr+f_string+factor+field+four+guard+if_else+let_stmt+match_expr+operand+parens+path_expr+postfix+record+return_expr+stmt+stmts.Proof.Operand.{operand-word-requires, operand-is-sign-requires, operand-enum-known-step, operand-enum-told, operand-unusable-requires, operand-returns, operand-refuse-requires, operand-returns-2, operand-step-requires, operand-signed-requires, operand-operand-requires, operand-access-requires, operand-same-length, operand-returns-3, operand-enum-known-r, operand-enum-told-2, operand-same-length-2, operand-returns-4, operand-enum-known-step-2, operand-enum-told-3, operand-unusable-requires-2, operand-same-length-3, operand-returns-5, operand-sign-kind-requires, operand-plain-row-requires, operand-finish-requires, operand-same-length-4, operand-returns-6}
+use Rattle.reader.proofs.+access+args+arm+assign_expr+atom+binop_expr+block+body+braces+cond+elses+expr+f_string+factor+field+four+guard+if_else+let_stmt+match_expr+operand+parens+path_expr+postfix+record+return_expr+stmt+stmts.Proof.Operand.{operand-word-requires, operand-is-sign-requires, operand-enum-known-step, operand-enum-told, operand-unusable-requires, operand-returns, operand-refuse-requires, operand-returns-2, operand-step-requires, operand-signed-requires, operand-operand-requires, operand-access-requires, operand-same-length, operand-returns-3, operand-enum-known-r, operand-enum-told-2, operand-same-length-2, operand-returns-4, operand-same-length-3, operand-returns-5, operand-sign-kind-requires, operand-plain-row-requires, operand-finish-requires}
 use Rattle.reader.proofs.+access+args+arm+assign_expr+atom+binop_expr+block+body+braces+cond+elses+expr+f_string+factor+field+four+guard+if_else+let_stmt+match_expr+operand+parens+path_expr+postfix+record+return_expr+stmt+stmts.Proof.Parens.{parens-open-requires, parens-enum-known-r, parens-enum-told, parens-returns, parens-opened-requires, parens-expr-requires, parens-enum-known-r-2, parens-enum-told-2, parens-same-length, parens-returns-2, parens-expect-requires, parens-enum-known-r-3, parens-enum-told-3, parens-same-length-2, parens-returns-3, parens-same-length-3, parens-returns-4}
 use Rattle.reader.proofs.+access+args+arm+assign_expr+atom+binop_expr+block+body+braces+cond+elses+expr+f_string+factor+field+four+guard+if_else+let_stmt+match_expr+operand+parens+path_expr+postfix+record+return_expr+stmt+stmts.Proof.PathExpr.{path-expr-path-requires, path-expr-enum-known-r, path-expr-enum-told, path-expr-same-length, path-expr-returns, path-expr-same-length-2, path-expr-returns-2, path-expr-word-requires, path-expr-same-length-3, path-expr-returns-3, path-expr-open-requires, path-expr-enum-known-r-2, path-expr-enum-told-2, path-expr-same-length-4, path-expr-returns-4, path-expr-opened-requires, path-expr-record-requires, path-expr-same-length-5, path-expr-returns-5}
 use Rattle.reader.proofs.+access+args+arm+assign_expr+atom+binop_expr+block+body+braces+cond+elses+expr+f_string+factor+field+four+guard+if_else+let_stmt+match_expr+operand+parens+path_expr+postfix+record+return_expr+stmt+stmts.Proof.Postfix.{postfix-word-requires, postfix-question-requires, postfix-same-length, postfix-returns, postfix-word-requires-2, postfix-field-access-requires, postfix-same-length-2, postfix-returns-2, postfix-args-requires, postfix-enum-known-r, postfix-enum-told, postfix-same-length-3, postfix-returns-3, postfix-add-plain-row, postfix-plain-row-requires, postfix-finish-requires, postfix-same-length-4, postfix-returns-4}
 use Rattle.reader.proofs.+access+args+arm+assign_expr+atom+binop_expr+block+body+braces+cond+elses+expr+f_string+factor+field+four+guard+if_else+let_stmt+match_expr+operand+parens+path_expr+postfix+record+return_expr+stmt+stmts.Proof.Record.{record-loop-holds, record-word-requires, record-is-name-requires, record-field-requires, record-enum-known-r, record-enum-told, record-same-length, record-returns, record-add-children, record-word-requires-2, record-braced-requires, record-same-length-2, record-returns-2, record-take-requires, record-enum-known-r-2, record-enum-told-2, record-same-length-3, record-returns-3, record-loop-less, record-loop-again, record-braced-requires-2, record-same-length-4, record-returns-4, record-Inv-loop, record-μ-loop}
-use Rattle.reader.proofs.+access+args+arm+assign_expr+atom+binop_expr+block+body+braces+cond+elses+expr+f_string+factor+field+four+guard+if_else+let_stmt+match_expr+operand+parens+path_expr+postfix+record+return_expr+stmt+stmts.Proof.ReturnExpr.{return-expr-loop-holds, return-expr-deeper-requires, return-expr-enum-known-r, return-expr-enum-told, return-expr-same-length, return-expr-returns, return-expr-word-requires, return-expr-return-detail-requires, return-expr-signed-requires, return-expr-word-requires-2, return-expr-ends-return-requires, return-expr-detail-row-requires, return-expr-finish-requires, return-expr-slice-aggregate-around, return-expr-slice-aggregate-around-2, return-expr-around-requires, return-expr-same-length-2, return-expr-returns-2, return-expr-word-requires-3, return-expr-return-detail-requires-2, return-expr-assign-expr-requires, return-expr-enum-known-r-2, return-expr-enum-told-2, return-expr-same-length-3, return-expr-returns-3, return-expr-detail-row-requires-2, return-expr-finish-requires-2, return-expr-slice-aggregate-around-3, return-expr-slice-aggregate-around-4, return-expr-around-requires-2, return-expr-same-length-4, return-expr-returns-4, return-expr-cast-starts, return-expr-mul-starts, return-expr-array-write-starts, return-expr-cast-details, return-expr-array-write-details, return-expr-add-count, return-expr-loop-less, return-expr-loop-again, return-expr-Inv-loop, return-expr-μ-loop}
+use Rattle.reader.proofs.+access+args+arm+assign_expr+atom+binop_expr+block+body+braces+cond+elses+expr+f_string+factor+field+four+guard+if_else+let_stmt+match_expr+operand+parens+path_expr+postfix+record+return_expr+stmt+stmts.Proof.ReturnExpr.{return-expr-loop-holds, return-expr-deeper-requires, return-expr-enum-known-r, return-expr-enum-told, return-expr-same-length, return-expr-returns, return-expr-word-requires, return-expr-return-detail-requires, return-expr-signed-requires, return-expr-word-requires-2, return-expr-ends-return-requires, return-expr-detail-row-requires, return-expr-finish-requires, return-expr-slice-aggregate-around, return-expr-slice-aggregate-around-2, return-expr-around-requires, return-expr-same-length-2, return-expr-returns-2, return-expr-word-requires-3, return-expr-return-detail-requires-2, return-expr-assign-expr-requires, return-expr-enum-known-r-2, return-expr-enum-told-2, return-expr-same-length-3, return-expr-returns-3, return-expr-detail-row-requires-2, return-expr-finish-requires-2, return-expr-slice-aggregate-around-3, return-expr-slice-aggregate-around-4, return-expr-around-requires-2, return-expr-same-length-4, return-expr-returns-4, return-expr-cast-starts, return-expr-mul-starts, return-expr-array-write-starts, return-expr-cast-details, return-expr-array-write-details, return-expr-add-count, return-expr-loop-less, return-expr-loop-again, return-expr-Inv-loop, return-expr-μ-loop, return-expr-slice-aggregate-around-5, return-expr-slice-aggregate-around-6, return-expr-cast-sinces, return-expr-mul-sinces, return-expr-array-write-sinces}
 use Rattle.reader.proofs.+access+args+arm+assign_expr+atom+binop_expr+block+body+braces+cond+elses+expr+f_string+factor+field+four+guard+if_else+let_stmt+match_expr+operand+parens+path_expr+postfix+record+return_expr+stmt+stmts.Proof.Stmt.{stmt-word-requires, stmt-import-requires, stmt-ended-requires, stmt-same-length, stmt-returns, stmt-word-requires-2, stmt-let-stmt-requires, stmt-ended-requires-2, stmt-same-length-2, stmt-returns-2, stmt-word-requires-3, stmt-is-four-requires, stmt-four-requires, stmt-enum-known-r, stmt-enum-told, stmt-ended-requires-3, stmt-same-length-3, stmt-returns-3, stmt-word-requires-4, stmt-same-length-4, stmt-returns-4, stmt-take-requires, stmt-ended-requires-4, stmt-same-length-5, stmt-returns-5, stmt-word-requires-5, stmt-can-begin-expr-requires, stmt-unusable-requires, stmt-ended-requires-5, stmt-returns-6, stmt-expr-requires, stmt-enum-known-r-2, stmt-enum-told-2, stmt-ended-requires-6, stmt-same-length-6, stmt-returns-7, stmt-word-requires-6, stmt-same-length-7, stmt-returns-8, stmt-take-requires-2, stmt-ended-requires-7, stmt-same-length-8, stmt-returns-9}
 use Rattle.reader.proofs.+access+args+arm+assign_expr+atom+binop_expr+block+body+braces+cond+elses+expr+f_string+factor+field+four+guard+if_else+let_stmt+match_expr+operand+parens+path_expr+postfix+record+return_expr+stmt+stmts.Proof.Stmts.{stmts-loop-holds, stmts-word-requires, stmts-can-begin-statement-requires, stmts-stmt-requires, stmts-add-children, stmts-enum-known-r, stmts-loop-less, stmts-loop-again, stmts-enum-known-r-2, stmts-loop-less-2, stmts-loop-again-2, stmts-enum-known-r-3, stmts-braced-requires, stmts-same-length, stmts-returns, stmts-enum-known-r-4, stmts-same-length-2, stmts-returns-2, stmts-braced-requires-2, stmts-same-length-3, stmts-returns-3, stmts-Inv-loop, stmts-μ-loop}
 
@@ -911,6 +911,7 @@ pub +access+args+arm+assign-expr+atom+binop-expr+block+body+braces+cond+elses+ex
     (if-else-finish-requires t)
     (if-else-slice-aggregate-around t)
     (if-else-slice-aggregate-around-2 t)
+    (if-else-slice-aggregate-around-3 t)
     (if-else-around-requires t)
     (if-else-same-length-2 t)
     (if-else-returns-2 t)
@@ -921,8 +922,9 @@ pub +access+args+arm+assign-expr+atom+binop-expr+block+body+braces+cond+elses+ex
     (if-else-returns-3 t)
     (if-else-word-requires-2 t)
     (if-else-elses-requires t)
-    (if-else-slice-aggregate-around-3 t)
     (if-else-slice-aggregate-around-4 t)
+    (if-else-slice-aggregate-around-5 t)
+    (if-else-slice-aggregate-around-6 t)
     (if-else-around-requires-2 t)
     (if-else-same-length-4 t)
     (if-else-returns-4 t)
@@ -934,6 +936,9 @@ pub +access+args+arm+assign-expr+atom+binop-expr+block+body+braces+cond+elses+ex
     (if-else-cast-starts t)
     (if-else-mul-starts t)
     (if-else-array-write-starts t)
+    (if-else-cast-sinces t)
+    (if-else-mul-sinces t)
+    (if-else-array-write-sinces t)
     (if-else-add-count t)
     (if-else-chained-requires t)
     (if-else-loop-less t)
@@ -1089,16 +1094,11 @@ pub +access+args+arm+assign-expr+atom+binop-expr+block+body+braces+cond+elses+ex
     (operand-enum-told-2 t)
     (operand-same-length-2 t)
     (operand-returns-4 t)
-    (operand-enum-known-step-2 t)
-    (operand-enum-told-3 t)
-    (operand-unusable-requires-2 t)
-    (operand-same-length-3 t)
-    (operand-returns-5 t)
     (operand-sign-kind-requires t)
     (operand-plain-row-requires t)
     (operand-finish-requires t)
-    (operand-same-length-4 t)
-    (operand-returns-6 t))
+    (operand-same-length-3 t)
+    (operand-returns-5 t))
     (λ t. parens-lts.spec (
       open-reads.Asked,
       open-reads.Learnt,
@@ -1273,6 +1273,7 @@ pub +access+args+arm+assign-expr+atom+binop-expr+block+body+braces+cond+elses+ex
     (return-expr-finish-requires t)
     (return-expr-slice-aggregate-around t)
     (return-expr-slice-aggregate-around-2 t)
+    (return-expr-slice-aggregate-around-3 t)
     (return-expr-around-requires t)
     (return-expr-same-length-2 t)
     (return-expr-returns-2 t)
@@ -1285,14 +1286,18 @@ pub +access+args+arm+assign-expr+atom+binop-expr+block+body+braces+cond+elses+ex
     (return-expr-returns-3 t)
     (return-expr-detail-row-requires-2 t)
     (return-expr-finish-requires-2 t)
-    (return-expr-slice-aggregate-around-3 t)
     (return-expr-slice-aggregate-around-4 t)
+    (return-expr-slice-aggregate-around-5 t)
+    (return-expr-slice-aggregate-around-6 t)
     (return-expr-around-requires-2 t)
     (return-expr-same-length-4 t)
     (return-expr-returns-4 t)
     (return-expr-cast-starts t)
     (return-expr-mul-starts t)
     (return-expr-array-write-starts t)
+    (return-expr-cast-sinces t)
+    (return-expr-mul-sinces t)
+    (return-expr-array-write-sinces t)
     (return-expr-cast-details t)
     (return-expr-array-write-details t)
     (return-expr-add-count t)

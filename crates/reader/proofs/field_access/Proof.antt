@@ -31,7 +31,7 @@ same-length : tie.Need-same-length
 same-length c = search needs
 
 returns-2 : tie.Need-returns-2
-returns-2 c = access-stops _ _ _ _ (c .before .before .before .before .before .before .before .before .before .before .before .before .pre .0) (c .before .before .before .before .before .before .before .before .before .before .before .before .pre .1) (took-done _ _ (c .before .before .before .before .before .before .before .before .before .take .ensures) (c .before .before .before .before .before .before .before .r .given .1) .here) (c .before .before .before .before .identifier .ensures .0) (c .enum-told2 .given .1)
+returns-2 c = access-stops _ _ _ _ (c .before .before .before .before .before .before .before .before .before .before .before .before .args .since) (c .before .before .before .before .before .before .before .before .before .before .before .before .pre .0) (c .before .before .before .before .before .before .before .before .before .before .before .before .pre .1) (took-done _ _ (c .before .before .before .before .before .before .before .before .before .take .ensures) (c .before .before .before .before .before .before .before .r .given .1) .here) (c .before .before .before .before .identifier .ensures .0) (c .enum-told2 .given .1)
 
 plain-row-requires : tie.Need-plain-row-requires
 plain-row-requires c κs = search needs
@@ -43,7 +43,7 @@ same-length-2 : tie.Need-same-length-2
 same-length-2 c = search needs
 
 returns-3 : tie.Need-returns-3
-returns-3 c = accessed _ _ _ _ (c .before .before .before .before .before .before .before .before .before .before .before .before .before .before .before .before .before .before .pre .0) (c .before .before .before .before .before .before .before .before .before .before .before .before .before .before .before .before .before .before .pre .1) (took-done _ _ (c .before .before .before .before .before .before .before .before .before .before .before .before .before .before .before .take .ensures) (c .before .before .before .before .before .before .before .before .before .before .before .before .before .r .given .1) .here) (c .before .before .before .before .before .before .before .before .before .before .identifier .ensures .0) (c .before .before .before .before .before .before .r2 .given .1) (c .before .before .before .plain-row .ensures) (c .before .before .finish .ensures .0) (c .before .before .finish .ensures .1)
+returns-3 c = accessed _ _ _ _ (c .before .before .before .before .before .before .before .before .before .before .before .before .before .before .before .before .before .before .args .since) (c .before .before .before .before .before .before .before .before .before .before .before .before .before .before .before .before .before .before .pre .0) (c .before .before .before .before .before .before .before .before .before .before .before .before .before .before .before .before .before .before .pre .1) (took-done _ _ (c .before .before .before .before .before .before .before .before .before .before .before .before .before .before .before .take .ensures) (c .before .before .before .before .before .before .before .before .before .before .before .before .before .r .given .1) .here) (c .before .before .before .before .before .before .before .before .before .before .identifier .ensures .0) (c .before .before .before .before .before .before .r2 .given .1) (c .before .before .before .plain-row .ensures) (c .before .before .finish .ensures .0) (c .before .before .finish .ensures .1)
 
 pub field-access-spec : {M : Type 1} → statement M
 field-access-spec =

@@ -29,7 +29,7 @@ same-length c = search needs
 
 returns-2 : tie.Need-returns-2
 unfolding joinedRead joinedTable
-returns-2 c = rw (c .before .before .before .before .before .before .before .right .given .1) (row-is _ _ (detailed (c .before .before .before .before .detail-row .ensures) (c .before .before .before .before .before .binary-detail .ensures)) (c .before .before .finish .ensures))
+returns-2 c = rw (c .before .before .before .before .before .before .before .right .given .1) (row-is _ _ _ (detailed (c .before .before .before .before .detail-row .ensures) (c .before .before .before .before .before .binary-detail .ensures)) (c .before .before .finish .ensures))
 
 pub joined-spec : {M : Type 1} → statement M
 joined-spec =

@@ -8,88 +8,76 @@ use Rattle.rows.proofs.put.Tie as tie
 use Rattle.rows.proofs.put.Reads as reads
 use Rattle.rows.proofs.put.Lts as lts
 
--- src/lib.rt:20:17
 mul-i : tie.Need-mul-i
 mul-i c = search needs
 
--- src/lib.rt:21:9
 mul-table : tie.Need-mul-table
 mul-table c = search needs
 
--- src/lib.rt:21:9
 slice-write-table : tie.Need-slice-write-table
 slice-write-table c = search needs
 
--- src/lib.rt:22:15
 add-table : tie.Need-add-table
 add-table c = search needs
 
--- src/lib.rt:22:9
 mul-table-2 : tie.Need-mul-table-2
 mul-table-2 c = search needs
 
--- src/lib.rt:22:9
 slice-write-table-2 : tie.Need-slice-write-table-2
 slice-write-table-2 c = simp length-set (omega arith)
 
--- src/lib.rt:23:15
 add-table-2 : tie.Need-add-table-2
 add-table-2 c = search needs
 
--- src/lib.rt:23:9
 mul-table-3 : tie.Need-mul-table-3
 mul-table-3 c = search needs
 
--- src/lib.rt:23:9
 slice-write-table-3 : tie.Need-slice-write-table-3
 slice-write-table-3 c = simp length-set (omega arith)
 
--- src/lib.rt:24:15
 add-table-3 : tie.Need-add-table-3
 add-table-3 c = search needs
 
--- src/lib.rt:24:9
 mul-table-4 : tie.Need-mul-table-4
 mul-table-4 c = search needs
 
--- src/lib.rt:24:9
 slice-write-table-4 : tie.Need-slice-write-table-4
 slice-write-table-4 c = simp length-set (omega arith)
 
--- src/lib.rt:25:15
 add-table-4 : tie.Need-add-table-4
 add-table-4 c = search needs
 
--- src/lib.rt:25:9
 mul-table-5 : tie.Need-mul-table-5
 mul-table-5 c = search needs
 
--- src/lib.rt:25:9
 slice-write-table-5 : tie.Need-slice-write-table-5
 slice-write-table-5 c = simp length-set (omega arith)
 
--- src/lib.rt:26:15
 add-table-5 : tie.Need-add-table-5
 add-table-5 c = search needs
 
--- src/lib.rt:26:9
 mul-table-6 : tie.Need-mul-table-6
 mul-table-6 c = search needs
 
--- src/lib.rt:26:9
 slice-write-table-6 : tie.Need-slice-write-table-6
 slice-write-table-6 c = simp length-set (omega arith)
 
--- src/lib.rt:16:1
+add-table-6 : tie.Need-add-table-6
+add-table-6 c = search needs
+
+mul-table-7 : tie.Need-mul-table-7
+mul-table-7 c = search needs
+
+slice-write-table-7 : tie.Need-slice-write-table-7
+slice-write-table-7 c = simp length-set (omega arith)
+
 same-length : tie.Need-same-length
 same-length c = search needs
 
--- src/lib.rt:16:1
 returns : tie.Need-returns
 unfolding putRow
 returns c = simp (lt-ltb _ _ (c .if1 .taken))
 
--- src/lib.rt:16:1
 returns-2 : tie.Need-returns-2
 unfolding putRow
 returns-2 c = simp (le-ltb _ _ (c .if1 .left))
@@ -116,6 +104,9 @@ put-spec =
     add-table-5
     mul-table-6
     slice-write-table-6
+    add-table-6
+    mul-table-7
+    slice-write-table-7
     same-length
     returns
     returns-2)

@@ -4,6 +4,8 @@
 
 use std::arch::asm;
 
+use protocol::WIDTH;
+
 const SIZE: usize = 16 << 20;
 const PAINT: u8 = 0xa5;
 const MOST_ROWS: usize = 98_304;
@@ -94,7 +96,7 @@ fn chain(links: usize) -> String {
 }
 
 fn main() {
-    let mut measure = Measure { stack: vec![PAINT; SIZE], table: vec![0; MOST_ROWS * 6] };
+    let mut measure = Measure { stack: vec![PAINT; SIZE], table: vec![0; MOST_ROWS * WIDTH] };
     let owned = |texts: &[&str]| texts.iter().map(|text| text.to_string()).collect::<Vec<_>>();
     println!("{:8} bytes: the empty source", measure.taken(lekhyundo_expression, ""));
 

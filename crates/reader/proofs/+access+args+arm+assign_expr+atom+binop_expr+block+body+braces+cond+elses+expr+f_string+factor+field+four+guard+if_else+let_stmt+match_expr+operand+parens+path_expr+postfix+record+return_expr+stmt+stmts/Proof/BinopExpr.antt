@@ -20,10 +20,10 @@ use Rattle.words.proofs.binary_level.Reads as binary-level-reads
 use Rattle.reader.proofs.+access+args+arm+assign_expr+atom+binop_expr+block+body+braces+cond+elses+expr+f_string+factor+field+four+guard+if_else+let_stmt+match_expr+operand+parens+path_expr+postfix+record+return_expr+stmt+stmts.Proof.Measures.{binop-expr-at, factor-below}
 
 abbrev pub binop-expr-Inv-loop : binop-expr-lts.InvT-loop
-binop-expr-Inv-loop s table₀ records up after left₀ here₀ tight₀ table left here tight = Chained s records after up left₀ here₀ table₀ tight left here table
+binop-expr-Inv-loop s table₀ at records up after left₀ here₀ tight₀ table left here tight = Chained s records after up (at .rows) left₀ here₀ table₀ tight left here table
 
 abbrev pub binop-expr-μ-loop : binop-expr-lts.MeasureT-loop
-binop-expr-μ-loop s table₀ records up after left₀ here₀ tight₀ table left here tight = 70000 - nextOf here
+binop-expr-μ-loop s table₀ at records up after left₀ here₀ tight₀ table left here tight = 70000 - nextOf here
 
 module _ (t : ℕ) where
   abbrev told : binop-expr-lts.Claims

@@ -25,10 +25,10 @@ use Rattle.parser.proofs.unusable.Reads as unusable-reads
 use Rattle.reader.proofs.+access+args+arm+assign_expr+atom+binop_expr+block+body+braces+cond+elses+expr+f_string+factor+field+four+guard+if_else+let_stmt+match_expr+operand+parens+path_expr+postfix+record+return_expr+stmt+stmts.Proof.Measures.{expr-below, f-string-at}
 
 abbrev pub f-string-Inv-loop : f-string-lts.InvT-loop
-f-string-Inv-loop s table₀ limits quote here₀ children₀ table here children = Spelling (the s (counts limits) F-STRING here₀ table₀) limits (startOf here₀) children here table
+f-string-Inv-loop s table₀ at limits quote here₀ children₀ table here children = Spelling (the s (counts limits) F-STRING here₀ table₀) limits (startOf here₀) children here table
 
 abbrev pub f-string-μ-loop : f-string-lts.MeasureT-loop
-f-string-μ-loop s table₀ limits quote here₀ children₀ table here children = 70000 - nextOf here
+f-string-μ-loop s table₀ at limits quote here₀ children₀ table here children = 70000 - nextOf here
 
 module _ (t : ℕ) where
   abbrev told : f-string-lts.Claims

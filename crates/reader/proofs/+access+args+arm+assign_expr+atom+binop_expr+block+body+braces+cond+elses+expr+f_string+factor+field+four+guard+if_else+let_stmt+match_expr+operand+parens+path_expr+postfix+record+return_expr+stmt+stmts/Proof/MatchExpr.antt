@@ -26,10 +26,10 @@ use Rattle.words.proofs.is_name.Reads as is-name-reads
 use Rattle.reader.proofs.+access+args+arm+assign_expr+atom+binop_expr+block+body+braces+cond+elses+expr+f_string+factor+field+four+guard+if_else+let_stmt+match_expr+operand+parens+path_expr+postfix+record+return_expr+stmt+stmts.Proof.Measures.{arm-below, expr-below, match-expr-at}
 
 abbrev pub match-expr-Inv-loop : match-expr-lts.InvT-loop
-match-expr-Inv-loop s table₀ start inner here₀ children₀ table here children = Gone s inner children₀ here₀ table₀ children here table
+match-expr-Inv-loop s table₀ at start inner here₀ children₀ table here children = Gone s inner children₀ here₀ table₀ children here table
 
 abbrev pub match-expr-μ-loop : match-expr-lts.MeasureT-loop
-match-expr-μ-loop s table₀ start inner here₀ children₀ table here children = length s + 1 - nextOf here
+match-expr-μ-loop s table₀ at start inner here₀ children₀ table here children = length s + 1 - nextOf here
 
 module _ (t : ℕ) where
   abbrev told : match-expr-lts.Claims
@@ -114,7 +114,7 @@ module _ (t : ℕ) where
   match-expr-same-length-4 c = c .before .before .before .before .table2 .given ∙ c .before .before .before .before .before .before .before .before .before .before .loop .inv .kept ∙ c .before .before .before .before .before .before .before .before .before .before .before .before .before .before .before .before .before .before .before .before .table .given
 
   pub match-expr-returns-4 : match-expr-lts.Need-returns-4 told (match-expr-at t) match-expr.Post match-expr-Inv-loop match-expr-μ-loop
-  match-expr-returns-4 c = heads λ f q b. match-ends q (c .before .before .before .before .before .before .before .before .before .before .before .before .before .before .before .before .before .before .before .before .before .before .headed .ensures) b (c .before .before .before .before .before .before .before .before .before .before .before .before .before .before .before .before .before .before .before .before .before .expr .ensures) (c .before .before .before .before .before .before .before .before .before .before .before .before .before .before .before .before .before .r .given .1) (c .before .before .before .before .before .before .before .before .before .before .before .before .before .before .before .«open» .ensures) (c .before .before .before .before .before .before .before .before .before .before .before .before .before .r2 .given .1) (c .before .before .before .before .before .before .before .before .before .before .before .opened .ensures) (arms-fail (c .before .before .before .before .before .before .before .before .before .before .loop .inv) (true-so (c .before .before .before .before .before .before .before .before .is-name .ensures ∙ ap (λ w. one-of w names) (c .before .before .before .before .before .before .before .before .before .word .ensures)) (c .before .before .before .before .before .before .before .if1 .taken)) (c .before .before .before .before .before .arm .ensures) (c .before .r5 .given .1) refl)
+  match-expr-returns-4 c = heads λ f q b. match-ends q (c .before .before .before .before .before .before .before .before .before .before .before .before .before .before .before .before .before .before .before .before .before .before .headed .ensures) b (c .before .before .before .before .before .before .before .before .before .before .before .before .before .before .before .before .before .before .before .before .before .expr .ensures) (c .before .before .before .before .before .before .before .before .before .before .before .before .before .before .before .before .before .r .given .1) (c .before .before .before .before .before .before .before .before .before .before .before .before .before .before .before .«open» .ensures) (c .before .before .before .before .before .before .before .before .before .before .before .before .before .r2 .given .1) (c .before .before .before .before .before .before .before .before .before .before .before .opened .ensures) (arms-fail (c .before .before .before .before .before .before .before .before .before .before .loop .inv) (true-so (c .before .before .before .before .before .before .before .before .is-name .ensures ∙ ap (λ w. one-of w names) (c .before .before .before .before .before .before .before .before .before .word .ensures)) (c .before .before .before .before .before .before .before .if1 .taken)) (c .before .before .before .before .before .arm .ensures) (c .before .before .before .before .before .before .before .before .before .before .before .before .before .before .before .before .before .before .before .before .before .before .before .before .before .before .args .at .rows) (c .before .r5 .given .1) refl)
 
   pub match-expr-braced-requires-2 : match-expr-lts.Need-braced-requires-2 told (match-expr-at t) match-expr.Post match-expr-Inv-loop match-expr-μ-loop
   match-expr-braced-requires-2 c κs = search needs

@@ -1,6 +1,6 @@
 use Prim.Native.Nat.{ℕ}
 use Rattle.grammar.specs.Grammar.{one-of}
-use Rattle.parser.proofs.Laws.{start-taken, stepped-here, under-on, under-out, word-taken}
+use Rattle.parser.proofs.Laws.{start-taken, stepped-here, under-on, under-out}
 use Rattle.parser.proofs.Standing.{never-untaken}
 use Rattle.parser.specs.Going.{Stands}
 use Rattle.parser.specs.Places.{nextOf, tokenNode, wordOf}
@@ -87,21 +87,6 @@ module _ (t : ℕ) where
   pub operand-same-length-2 : operand-lts.Need-same-length-2 told (operand-at t) operand.Post
   operand-same-length-2 c = kept-either (operand-returns-4 c)
 
-  pub operand-enum-known-step-2 : operand-lts.Need-enum-known-step-2 told (operand-at t) operand.Post
-  operand-enum-known-step-2 c = search needs
-
-  pub operand-enum-told-3 : operand-lts.Need-enum-told-3 told (operand-at t) operand.Post
-  operand-enum-told-3 c = search needs
-
-  pub operand-unusable-requires-2 : operand-lts.Need-unusable-requires-2 told (operand-at t) operand.Post
-  operand-unusable-requires-2 c κs = search needs
-
-  pub operand-returns-5 : operand-lts.Need-returns-5 told (operand-at t) operand.Post
-  operand-returns-5 c = never-untaken signWords tt (not-false-so (c .before .before .before .before .before .before .before .before .before .is-sign .ensures ∙ ap (λ w. one-of w signWords) (c .before .before .before .before .before .before .before .before .before .before .word .ensures)) (c .before .before .before .before .before .before .if4 .left)) (c .before .enum-told3 .given .1)
-
-  pub operand-same-length-3 : operand-lts.Need-same-length-3 told (operand-at t) operand.Post
-  operand-same-length-3 c = kept-either (operand-returns-5 c)
-
   pub operand-sign-kind-requires : operand-lts.Need-sign-kind-requires told (operand-at t) operand.Post
   operand-sign-kind-requires c κs = search needs
 
@@ -111,8 +96,8 @@ module _ (t : ℕ) where
   pub operand-finish-requires : operand-lts.Need-finish-requires told (operand-at t) operand.Post
   operand-finish-requires c κs = search needs
 
-  pub operand-returns-6 : operand-lts.Need-returns-6 told (operand-at t) operand.Post
-  operand-returns-6 c = elim (c .before .before .before .before .before .before .before .before .before .before .before .before .before .if3 .came) [ inl y ↦ elim (c .before .before .before .before .before .before .before .before .before .before .before .before .before .before .if1 .came) [ inl x ↦ negate-ends _ (c .before .before .before .before .before .before .before .before .before .before .before .before .before .before .before .before .before .before .before .args .limits) (c .before .before .before .before .before .before .before .before .before .before .before .before .before .before .before .before .before .before .before .args .records) _ (c .before .before .before .before .before .before .before .before .before .before .before .before .before .before .before .before .before .before .before .args .table .now) (c .before .before .before .before .before .before .before .before .before .before .before .before .before .before .before .before .before .before .before .pre .1) (sign-of (c .before .before .before .before .before .before .before .before .before .before .before .before .before .before .before .before .before .before .before .args .records) (wordOf (c .before .before .before .before .before .before .before .before .before .before .before .before .before .before .before .before .before .before .before .args .at)) (true-so (c .before .before .before .before .before .before .before .before .before .before .before .before .before .before .before .is-sign .ensures ∙ ap (λ w. one-of w signWords) (c .before .before .before .before .before .before .before .before .before .before .before .before .before .before .before .before .word .ensures)) (x .0 .taken))) (ap (Done (tokenNode (c .before .before .before .before .before .before .before .before .before .before .before .before .before .before .before .before .before .before .before .args .at))) (stepped-here _ (c .before .before .before .before .before .before .before .before .before .before .before .before .before .before .before .before .before .before .before .args .at) (x .2 .given .1) (x .6 .ensures .0) (x .8)) ∙ under-on _ (c .before .before .before .before .before .before .before .before .before .before .before .before .before .before .before .before .before .before .before .args .at) _ (x .5 .left) (x .2 .given .1)) refl (x .9 ∙ x .7 .ensures) (read-as refl refl (y .6) (y .5) (y .2 .ensures)) (c .before .before .before .before .before .before .before .before .before .before .r .given .1) (c .before .before .before .before .sign-kind .ensures ∙ ap signKind (word-taken (c .before .before .before .before .before .before .before .step3 .given .1))) (plain-from (c .before .before .before .plain-row .ensures) (sym (start-taken (c .before .before .before .before .before .before .before .step3 .given .1)))) (c .before .before .finish .ensures .0) (c .before .before .finish .ensures .1) | inr x ↦ absurd ((false-so (c .before .before .before .before .before .before .before .before .before .before .before .before .before .before .before .is-sign .ensures ∙ ap (λ w. one-of w signWords) (c .before .before .before .before .before .before .before .before .before .before .before .before .before .before .before .before .word .ensures)) (x .0 .left)) (not-false-so (c .before .before .before .before .before .before .before .before .before .before .before .before .before .before .before .is-sign .ensures ∙ ap (λ w. one-of w signWords) (c .before .before .before .before .before .before .before .before .before .before .before .before .before .before .before .before .word .ensures)) (c .before .before .before .before .before .before .before .before .before .before .before .before .if4 .left))) ] | inr y ↦ absurd ((false-so (c .before .before .before .before .before .before .before .before .before .before .before .before .before .before .before .is-sign .ensures ∙ ap (λ w. one-of w signWords) (c .before .before .before .before .before .before .before .before .before .before .before .before .before .before .before .before .word .ensures)) (y .0 .left)) (not-false-so (c .before .before .before .before .before .before .before .before .before .before .before .before .before .before .before .is-sign .ensures ∙ ap (λ w. one-of w signWords) (c .before .before .before .before .before .before .before .before .before .before .before .before .before .before .before .before .word .ensures)) (c .before .before .before .before .before .before .before .before .before .before .before .before .if4 .left))) ]
+  pub operand-returns-5 : operand-lts.Need-returns-5 told (operand-at t) operand.Post
+  operand-returns-5 c = elim (c .before .before .before .before .before .before .before .before .before .before .if3 .came) [ inl y ↦ elim (c .before .before .before .before .before .before .before .before .before .before .before .if1 .came) [ inl x ↦ negate-ends _ (c .before .before .before .before .before .before .before .before .before .before .before .before .before .before .before .before .args .limits) (c .before .before .before .before .before .before .before .before .before .before .before .before .before .before .before .before .args .records) _ (c .before .before .before .before .before .before .before .before .before .before .before .before .before .before .before .before .args .table .now) (c .before .before .before .before .before .before .before .before .before .before .before .before .before .before .before .before .pre .1) (sign-of (c .before .before .before .before .before .before .before .before .before .before .before .before .before .before .before .before .args .records) (wordOf (c .before .before .before .before .before .before .before .before .before .before .before .before .before .before .before .before .args .at)) (true-so (c .before .before .before .before .before .before .before .before .before .before .before .before .is-sign .ensures ∙ ap (λ w. one-of w signWords) (c .before .before .before .before .before .before .before .before .before .before .before .before .before .word .ensures)) (x .0 .taken))) (ap (Done (tokenNode (c .before .before .before .before .before .before .before .before .before .before .before .before .before .before .before .before .args .at))) (stepped-here _ (c .before .before .before .before .before .before .before .before .before .before .before .before .before .before .before .before .args .at) (x .2 .given .1) (x .6 .ensures .0) (x .8)) ∙ under-on _ (c .before .before .before .before .before .before .before .before .before .before .before .before .before .before .before .before .args .at) _ (x .5 .left) (x .2 .given .1)) refl (x .9 ∙ x .7 .ensures) (read-as refl refl (y .6) (y .5) (y .2 .ensures)) (c .before .before .before .before .before .before .before .r .given .1) (c .before .before .before .before .before .sign-kind .ensures ∙ ap signKind (c .before .before .before .before .before .before .before .before .before .before .before .before .before .word .ensures)) (plain-from (c .before .before .before .before .plain-row .ensures) (x .10 ∙ sym (start-taken (x .2 .given .1)))) (c .before .before .finish .ensures .0) (c .before .before .finish .ensures .1) | inr x ↦ absurd ((false-so (c .before .before .before .before .before .before .before .before .before .before .before .before .is-sign .ensures ∙ ap (λ w. one-of w signWords) (c .before .before .before .before .before .before .before .before .before .before .before .before .before .word .ensures)) (x .0 .left)) (not-false-so (c .before .before .before .before .before .before .before .before .before .before .before .before .is-sign .ensures ∙ ap (λ w. one-of w signWords) (c .before .before .before .before .before .before .before .before .before .before .before .before .before .word .ensures)) (c .before .before .before .before .before .before .before .before .before .if4 .left))) ] | inr y ↦ absurd ((false-so (c .before .before .before .before .before .before .before .before .before .before .before .before .is-sign .ensures ∙ ap (λ w. one-of w signWords) (c .before .before .before .before .before .before .before .before .before .before .before .before .before .word .ensures)) (y .0 .left)) (not-false-so (c .before .before .before .before .before .before .before .before .before .before .before .before .is-sign .ensures ∙ ap (λ w. one-of w signWords) (c .before .before .before .before .before .before .before .before .before .before .before .before .before .word .ensures)) (c .before .before .before .before .before .before .before .before .before .if4 .left))) ]
 
-  pub operand-same-length-4 : operand-lts.Need-same-length-4 told (operand-at t) operand.Post
-  operand-same-length-4 c = kept-either (operand-returns-6 c)
+  pub operand-same-length-3 : operand-lts.Need-same-length-3 told (operand-at t) operand.Post
+  operand-same-length-3 c = kept-either (operand-returns-5 c)

@@ -30,7 +30,7 @@ module _ (t : ℕ) where
   postfix-same-length c = search needs
 
   pub postfix-returns : postfix-lts.Need-returns told (postfix-at t) postfix.Post
-  postfix-returns c = let w = (sym (c .before .before .before .before .before .word .ensures) ∙ c .before .before .before .before .if1 .taken) in let q = c .before .before .question .ensures (51 ∷ []) tt (is-word w) in questioned _ _ _ _ (c .before .before .before .before .before .before .before .before .pre .1 .0) _ w (q .0) (q .1)
+  postfix-returns c = let w = (sym (c .before .before .before .before .before .word .ensures) ∙ c .before .before .before .before .if1 .taken) in let q = c .before .before .question .ensures (51 ∷ []) tt (is-word w) in questioned _ _ _ _ (c .before .before .before .before .before .before .before .before .args .since) (c .before .before .before .before .before .before .before .before .pre .1 .0) _ w (q .0) (q .1)
 
   pub postfix-word-requires-2 : postfix-lts.Need-word-requires-2 told (postfix-at t) postfix.Post
   postfix-word-requires-2 c κs = search needs
@@ -57,7 +57,7 @@ module _ (t : ℕ) where
   postfix-same-length-3 c = search needs
 
   pub postfix-returns-3 : postfix-lts.Need-returns-3 told (postfix-at t) postfix.Post
-  postfix-returns-3 c = call-stops _ _ _ _ (c .before .before .before .before .before .before .before .before .before .before .before .before .pre .1 .0) _ ((sym (c .before .before .before .before .before .before .before .word2 .ensures) ∙ c .before .before .before .before .before .before .if2 .left)) (c .before .before .before .before .args2 .ensures) (c .enum-told .given .1)
+  postfix-returns-3 c = call-stops _ _ _ _ (c .before .before .before .before .before .before .before .before .before .before .before .before .args .since) (c .before .before .before .before .before .before .before .before .before .before .before .before .pre .1 .0) _ ((sym (c .before .before .before .before .before .before .before .word2 .ensures) ∙ c .before .before .before .before .before .before .if2 .left)) (c .before .before .before .before .args2 .ensures) (c .enum-told .given .1)
 
   pub postfix-add-plain-row : postfix-lts.Need-add-plain-row told (postfix-at t) postfix.Post
   postfix-add-plain-row c = let k = subst few (c .before .before .r .given .1) (c .before .before .before .before .before .before .args2 .ensures .2) in omega (arith, k)
@@ -72,4 +72,4 @@ module _ (t : ℕ) where
   postfix-same-length-4 c = search needs
 
   pub postfix-returns-4 : postfix-lts.Need-returns-4 told (postfix-at t) postfix.Post
-  postfix-returns-4 c = called _ _ _ _ (c .before .before .before .before .before .before .before .before .before .before .before .before .before .before .before .before .before .before .before .pre .1 .0) _ ((sym (c .before .before .before .before .before .before .before .before .before .before .before .before .before .before .word2 .ensures) ∙ c .before .before .before .before .before .before .before .before .before .before .before .before .before .if2 .left)) (c .before .before .before .before .before .before .before .before .before .before .before .args2 .ensures) (c .before .before .before .before .before .before .before .r .given .1) (c .before .before .before .before .plain-row .ensures) (c .before .before .finish .ensures .0) (c .before .before .finish .ensures .1)
+  postfix-returns-4 c = called _ _ _ _ (c .before .before .before .before .before .before .before .before .before .before .before .before .before .before .before .before .before .before .before .args .since) (c .before .before .before .before .before .before .before .before .before .before .before .before .before .before .before .before .before .before .before .pre .1 .0) _ ((sym (c .before .before .before .before .before .before .before .before .before .before .before .before .before .before .word2 .ensures) ∙ c .before .before .before .before .before .before .before .before .before .before .before .before .before .if2 .left)) (c .before .before .before .before .before .before .before .before .before .before .before .args2 .ensures) (c .before .before .before .before .before .before .before .r .given .1) (c .before .before .before .before .plain-row .ensures) (c .before .before .finish .ensures .0) (c .before .before .finish .ensures .1)

@@ -22,10 +22,10 @@ use Rattle.words.proofs.is_name.Reads as is-name-reads
 use Rattle.reader.proofs.+access+args+arm+assign_expr+atom+binop_expr+block+body+braces+cond+elses+expr+f_string+factor+field+four+guard+if_else+let_stmt+match_expr+operand+parens+path_expr+postfix+record+return_expr+stmt+stmts.Proof.Measures.{field-below, record-at}
 
 abbrev pub record-Inv-loop : record-lts.InvT-loop
-record-Inv-loop s table₀ limits start paths here₀ children₀ table here children = Loops fields-list s limits here₀ table₀ children₀ here table children
+record-Inv-loop s table₀ limits start paths since here₀ children₀ table here children = Loops fields-list s limits here₀ table₀ children₀ here table children
 
 abbrev pub record-μ-loop : record-lts.MeasureT-loop
-record-μ-loop s table₀ limits start paths here₀ children₀ table here children = 70000 - nextOf here
+record-μ-loop s table₀ limits start paths since here₀ children₀ table here children = 70000 - nextOf here
 
 module _ (t : ℕ) where
   abbrev told : record-lts.Claims
@@ -53,7 +53,7 @@ module _ (t : ℕ) where
   record-same-length c = c .before .before .before .table .given ∙ c .before .before .before .before .before .before .before .before .before .loop .inv .kept
 
   pub record-returns : record-lts.Need-returns told (record-at t) the-record.Post record-Inv-loop record-μ-loop
-  record-returns c = fields-stop (c .before .before .before .before .before .before .before .before .before .before .before .before .pre .1 .1) (c .before .before .before .before .before .before .before .before .before .loop .inv) _ (true-so ((c .before .before .before .before .before .before .before .is-name .ensures ∙ ap (λ w. one-of w names) (c .before .before .before .before .before .before .before .before .word .ensures))) (c .before .before .before .before .before .before .if1 .taken)) (c .before .before .before .before .field .ensures) (c .enum-told .given .1)
+  record-returns c = fields-stop (c .before .before .before .before .before .before .before .before .before .before .before .before .pre .1 .1) (c .before .before .before .before .before .before .before .before .before .loop .inv) _ _ (true-so ((c .before .before .before .before .before .before .before .is-name .ensures ∙ ap (λ w. one-of w names) (c .before .before .before .before .before .before .before .before .word .ensures))) (c .before .before .before .before .before .before .if1 .taken)) (c .before .before .before .before .field .ensures) (c .enum-told .given .1)
 
   pub record-add-children : record-lts.Need-add-children told (record-at t) the-record.Post record-Inv-loop record-μ-loop
   record-add-children c = let k = loop-few fields-list (c .before .before .before .before .before .before .before .before .before .before .loop .inv) (c .before .before .before .before .before .before .before .before .before .before .before .before .before .pre .1 .2) in omega (arith, k)
@@ -68,7 +68,7 @@ module _ (t : ℕ) where
   record-same-length-2 c = c .before .table2 .given ∙ c .before .before .before .before .before .before .before .before .before .before .table .given ∙ c .before .before .before .before .before .before .before .before .before .before .before .before .before .before .before .before .loop .inv .kept
 
   pub record-returns-2 : record-lts.Need-returns-2 told (record-at t) the-record.Post record-Inv-loop record-μ-loop
-  record-returns-2 c = fields-last (c .before .before .before .before .before .before .before .before .before .before .before .before .before .before .before .before .before .before .before .pre .1 .1) (c .before .before .before .before .before .before .before .before .before .before .before .before .before .before .before .before .loop .inv) _ (true-so ((c .before .before .before .before .before .before .before .before .before .before .before .before .before .before .is-name .ensures ∙ ap (λ w. one-of w names) (c .before .before .before .before .before .before .before .before .before .before .before .before .before .before .before .word .ensures))) (c .before .before .before .before .before .before .before .before .before .before .before .before .before .if1 .taken)) (c .before .before .before .before .before .before .before .before .before .before .before .field .ensures) (c .before .before .before .before .before .before .before .before .before .before .before .before .before .before .before .before .before .before .before .pre .1 .2) (c .before .before .before .before .before .before .before .r .given .1) ((λ e. c .before .before .before .before .if2 .taken (c .before .before .before .before .before .word2 .ensures ∙ e))) (refl) (c .before .before .braced .ensures)
+  record-returns-2 c = fields-last (c .before .before .before .before .before .before .before .before .before .before .before .before .before .before .before .before .before .before .before .pre .1 .1) (c .before .before .before .before .before .before .before .before .before .before .before .before .before .before .before .before .loop .inv) _ _ (true-so ((c .before .before .before .before .before .before .before .before .before .before .before .before .before .before .is-name .ensures ∙ ap (λ w. one-of w names) (c .before .before .before .before .before .before .before .before .before .before .before .before .before .before .before .word .ensures))) (c .before .before .before .before .before .before .before .before .before .before .before .before .before .if1 .taken)) (c .before .before .before .before .before .before .before .before .before .before .before .field .ensures) (c .before .before .before .before .before .before .before .before .before .before .before .before .before .before .before .before .before .before .before .pre .1 .2) (c .before .before .before .before .before .before .before .r .given .1) ((λ e. c .before .before .before .before .if2 .taken (c .before .before .before .before .before .word2 .ensures ∙ e))) (refl) (c .before .before .braced .ensures)
 
   pub record-take-requires : record-lts.Need-take-requires told (record-at t) the-record.Post record-Inv-loop record-μ-loop
   record-take-requires c κs = search needs
@@ -98,4 +98,4 @@ module _ (t : ℕ) where
   record-same-length-4 c = c .before .table3 .given ∙ c .before .before .before .before .before .before .before .loop .inv .kept
 
   pub record-returns-4 : record-lts.Need-returns-4 told (record-at t) the-record.Post record-Inv-loop record-μ-loop
-  record-returns-4 c = fields-over (c .before .before .before .before .before .before .before .before .before .before .pre .1 .1) (c .before .before .before .before .before .before .before .loop .inv) _ (c .before .before .before .before .before .before .before .before .before .before .pre .1 .2) (false-so ((c .before .before .before .before .before .is-name .ensures ∙ ap (λ w. one-of w names) (c .before .before .before .before .before .before .word .ensures))) (c .before .before .before .before .if1 .left)) (refl) (c .before .before .braced2 .ensures)
+  record-returns-4 c = fields-over (c .before .before .before .before .before .before .before .before .before .before .pre .1 .1) (c .before .before .before .before .before .before .before .loop .inv) _ _ (c .before .before .before .before .before .before .before .before .before .before .pre .1 .2) (false-so ((c .before .before .before .before .before .is-name .ensures ∙ ap (λ w. one-of w names) (c .before .before .before .before .before .before .word .ensures))) (c .before .before .before .before .if1 .left)) (refl) (c .before .before .braced2 .ensures)

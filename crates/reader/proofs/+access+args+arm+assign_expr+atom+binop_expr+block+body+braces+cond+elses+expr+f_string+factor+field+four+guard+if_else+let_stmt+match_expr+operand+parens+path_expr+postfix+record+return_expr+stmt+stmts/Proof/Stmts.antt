@@ -18,10 +18,10 @@ use Rattle.words.proofs.can_begin_statement.Reads as can-begin-statement-reads
 use Rattle.reader.proofs.+access+args+arm+assign_expr+atom+binop_expr+block+body+braces+cond+elses+expr+f_string+factor+field+four+guard+if_else+let_stmt+match_expr+operand+parens+path_expr+postfix+record+return_expr+stmt+stmts.Proof.Measures.{stmt-below, stmts-at}
 
 abbrev pub stmts-Inv-loop : stmts-lts.InvT-loop
-stmts-Inv-loop s table₀ limits start here₀ children₀ last₀ table here children last = Round s limits children₀ last₀ here₀ table₀ children last here table
+stmts-Inv-loop s table₀ at limits start here₀ children₀ last₀ table here children last = Round s limits children₀ last₀ here₀ table₀ children last here table
 
 abbrev pub stmts-μ-loop : stmts-lts.MeasureT-loop
-stmts-μ-loop s table₀ limits start here₀ children₀ last₀ table here children last = length s + 1 - nextOf here
+stmts-μ-loop s table₀ at limits start here₀ children₀ last₀ table here children last = length s + 1 - nextOf here
 
 module _ (t : ℕ) where
   abbrev told : stmts-lts.Claims

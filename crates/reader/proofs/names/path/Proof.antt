@@ -17,10 +17,10 @@ use Rattle.reader.proofs.names.path.Statement.{statement}
 use Rattle.reader.proofs.names.path.Tie as tie
 
 abbrev Inv-loop : tie.InvT-loop
-Inv-loop s table₀ first end₀ here₀ children₀ table end here children = Goes s (first .start) end₀ children₀ here₀ table₀ end children here table
+Inv-loop s table₀ at first end₀ here₀ children₀ table end here children = Goes s (first .start) end₀ children₀ here₀ table₀ end children here table
 
 abbrev μ-loop : tie.MeasureT-loop
-μ-loop s table₀ first end₀ here₀ children₀ table end here children = length s + 1 - nextOf here
+μ-loop s table₀ at first end₀ here₀ children₀ table end here children = length s + 1 - nextOf here
 
 path-item-requires : tie.Need-path-item-requires Inv-loop μ-loop
 path-item-requires c κs = c .before .before .before .pre
@@ -89,7 +89,7 @@ finish-requires : tie.Need-finish-requires Inv-loop μ-loop
 finish-requires c κs = search needs
 
 returns-4 : tie.Need-returns-4 Inv-loop μ-loop
-returns-4 c = (λ d. path-ends _ _ _ d (c .before .before .before .before .before .before .before .loop .inv d _ _ (path-begins _ _ _ d (c .before .before .before .before .before .before .before .before .before .before .before .before .before .before .before .before .before .pre) (c .before .before .before .before .before .before .before .before .before .before .before .before .before .path-item .ensures) (c .before .before .before .before .before .before .before .before .before .r .given .1))) (λ e. c .before .before .before .before .before .if1 .left (c .before .before .before .before .before .before .word .ensures ∙ e)) (row-is _ _ (c .before .before .before .plain-row .ensures) (c .before .before .finish .ensures) .0) (row-is _ _ (c .before .before .before .plain-row .ensures) (c .before .before .finish .ensures) .1), undotted-done (c .before .before .finish .ensures .0) (λ e. c .before .before .before .before .before .if1 .left (c .before .before .before .before .before .before .word .ensures ∙ e)))
+returns-4 c = (λ d. path-ends _ _ _ d (c .before .before .before .before .before .before .before .loop .inv d _ _ (path-begins _ _ _ d (c .before .before .before .before .before .before .before .before .before .before .before .before .before .before .before .before .before .pre) (c .before .before .before .before .before .before .before .before .before .before .before .before .before .path-item .ensures) (c .before .before .before .before .before .before .before .before .before .r .given .1))) (λ e. c .before .before .before .before .before .if1 .left (c .before .before .before .before .before .before .word .ensures ∙ e)) (row-is _ _ _ (c .before .before .before .plain-row .ensures) (c .before .before .finish .ensures) .0) (row-is _ _ _ (c .before .before .before .plain-row .ensures) (c .before .before .finish .ensures) .1), undotted-done (c .before .before .finish .ensures .0) (λ e. c .before .before .before .before .before .if1 .left (c .before .before .before .before .before .before .word .ensures ∙ e)))
 
 same-length-4 : tie.Need-same-length-4 Inv-loop μ-loop
 same-length-4 c = kept-either (returns-4 c .0 zeros)

@@ -13,7 +13,7 @@ enum-told : tie.Need-enum-told
 enum-told c = search needs
 
 returns : tie.Need-returns
-returns c = closed-not _ _ _ tt (c .before .before .expect .ensures) _ (λ n. record { kind = c .before .before .before .before .before .args .kind; start = c .before .before .before .before .before .args .start; end = n; children = c .before .before .before .before .before .args .children; value = c .before .before .before .before .before .args .value; detail = 0 }) (c .enum-told .given .1)
+returns c = closed-not _ _ _ tt (c .before .before .expect .ensures) _ (λ n. record { kind = c .before .before .before .before .before .args .kind; start = c .before .before .before .before .before .args .start; end = n; children = c .before .before .before .before .before .args .children; value = c .before .before .before .before .before .args .value; detail = 0 }) (c .before .before .before .before .before .args .since) (c .enum-told .given .1)
 
 valued-row-requires : tie.Need-valued-row-requires
 valued-row-requires c κs = search needs
@@ -25,7 +25,7 @@ same-length : tie.Need-same-length
 same-length c = search needs
 
 returns-2 : tie.Need-returns-2
-returns-2 c = closed-is _ _ _ tt (c .before .before .before .before .before .before .before .before .expect .ensures) _ (λ n. record { kind = c .before .before .before .before .before .before .before .before .before .before .before .args .kind; start = c .before .before .before .before .before .before .before .before .before .before .before .args .start; end = n; children = c .before .before .before .before .before .before .before .before .before .before .before .args .children; value = c .before .before .before .before .before .before .before .before .before .before .before .args .value; detail = 0 }) (c .before .before .before .before .before .before .r .given .1) (row-is _ _ (c .before .before .before .valued-row .ensures) (c .before .before .finish .ensures))
+returns-2 c = closed-is _ _ _ tt (c .before .before .before .before .before .before .before .before .expect .ensures) _ (λ n. record { kind = c .before .before .before .before .before .before .before .before .before .before .before .args .kind; start = c .before .before .before .before .before .before .before .before .before .before .before .args .start; end = n; children = c .before .before .before .before .before .before .before .before .before .before .before .args .children; value = c .before .before .before .before .before .before .before .before .before .before .before .args .value; detail = 0 }) (c .before .before .before .before .before .before .before .before .before .before .before .args .since) (c .before .before .before .before .before .before .r .given .1) (row-is _ _ _ (c .before .before .before .valued-row .ensures) (c .before .before .finish .ensures))
 
 pub braced-spec : {M : Type 1} → statement M
 braced-spec =

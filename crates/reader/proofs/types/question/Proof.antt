@@ -27,7 +27,7 @@ same-length : tie.Need-same-length
 same-length c = search needs
 
 returns-2 : tie.Need-returns-2
-returns-2 c = λ w l m. wrote-past _ _ _ (λ n. plainRow (c .before .before .before .before .before .before .before .before .before .before .before .args .kind) (c .before .before .before .before .before .before .before .before .before .before .before .args .left .start) (n .end) 1) (c .before .before .before .before .before .before .before .before .take .ensures) (c .before .before .before .before .before .before .r .given .1) (row-is _ _ (c .before .before .before .plain-row .ensures) (c .before .before .finish .ensures))
+returns-2 c = λ w l m. wrote-past _ _ _ _ (λ n. plainRow (c .before .before .before .before .before .before .before .before .before .before .before .args .kind) (c .before .before .before .before .before .before .before .before .before .before .before .args .left .start) (n .end) 1) (c .before .before .before .before .before .before .before .before .take .ensures) (c .before .before .before .before .before .before .r .given .1) (row-is _ _ _ (c .before .before .before .plain-row .ensures) (c .before .before .finish .ensures))
 
 pub question-spec : {M : Type 1} → statement M
 question-spec =

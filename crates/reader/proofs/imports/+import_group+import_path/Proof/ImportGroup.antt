@@ -4,6 +4,7 @@ use borrow.Author.Needs.{needs}
 use mathlib.Core.Path.{_≡_, refl, _∙_, sym}
 use lib.ListN.{length}
 use Rattle.promises.proofs.Answered.{kept-either}
+use Rattle.promises.proofs.Blocks.{closed-by}
 use Rattle.promises.proofs.Imports.{Counting, closed-kept, Gathers, counting-few, counting-more, grouped-of, group-inner, group-starts, group-opens, group-unopened, group-refused, group-more, group-ends}
 use Rattle.parser.specs.Places.{nextOf}
 use mathlib.Core.List.{_∷_, []}
@@ -20,10 +21,10 @@ use Rattle.parser.proofs.Here.word.Reads as word-reads
 use Rattle.reader.proofs.parts.braced.Reads as braced-reads
 
 abbrev Inv-loop : import-group-lts.InvT-loop
-Inv-loop s table₀ start items inner here₀ children₀ table here children = Counting s here₀ children here × (length table ≡ length table₀) × Gathers s inner start children₀ here₀ table₀ children here table
+Inv-loop s table₀ start items since inner here₀ children₀ table here children = Counting s here₀ children here × (length table ≡ length table₀) × Gathers s inner start children₀ here₀ table₀ children here table
 
 abbrev μ-loop : import-group-lts.MeasureT-loop
-μ-loop s table₀ start items inner here₀ children₀ table here children = 70000 - nextOf here
+μ-loop s table₀ start items since inner here₀ children₀ table here children = 70000 - nextOf here
 
 module _ (t : ℕ) where
   abbrev told : import-group-lts.Claims
@@ -39,7 +40,7 @@ module _ (t : ℕ) where
   enum-told c = search needs
 
   returns : import-group-lts.Need-returns told (import-group-at t) import-group.Post Inv-loop μ-loop
-  returns c = grouped-of (λ d₀ n i t₀ d e w k b. group-unopened _ k b (c .before .before .before .before .before .pre .1 .1) (c .before .before .«open» .ensures) (c .enum-told .given .1))
+  returns c = grouped-of (λ d₀ n i t₀ d e w j k b. group-unopened _ k b (c .before .before .before .before .before .pre .1 .1) (c .before .before .«open» .ensures) (c .enum-told .given .1))
 
   opened-requires : import-group-lts.Need-opened-requires told (import-group-at t) import-group.Post Inv-loop μ-loop
   opened-requires c κs = search needs
@@ -60,7 +61,7 @@ module _ (t : ℕ) where
   same-length c = kept-either (c .before .before .before .before .import-path .ensures) ∙ c .before .before .before .before .before .before .loop .inv .1
 
   returns-2 : import-group-lts.Need-returns-2 told (import-group-at t) import-group.Post Inv-loop μ-loop
-  returns-2 c = grouped-of (λ d₀ n i t₀ d e w k b. group-refused _ (group-inner _ _ _ (c .before .before .before .before .before .before .before .before .before .before .before .«open» .ensures) (c .before .before .before .before .before .before .before .before .before .r .given .1) k (c .before .before .before .before .before .before .before .opened .ensures)) (c .before .before .before .before .before .before .loop .inv .2 d₀ n i t₀ d (group-inner _ _ _ (c .before .before .before .before .before .before .before .before .before .before .before .«open» .ensures) (c .before .before .before .before .before .before .before .before .before .r .given .1) k (c .before .before .before .before .before .before .before .opened .ensures)) (group-opens _ k b (c .before .before .before .before .before .before .before .before .before .before .before .before .before .before .pre .1 .1) (c .before .before .before .before .before .before .before .before .before .before .before .«open» .ensures) (c .before .before .before .before .before .before .before .before .before .r .given .1))) (c .before .before .before .before .import-path .ensures) (c .enum-told2 .given .1))
+  returns-2 c = grouped-of (λ d₀ n i t₀ d e w j k b. group-refused _ (group-inner _ _ _ (c .before .before .before .before .before .before .before .before .before .before .before .«open» .ensures) (c .before .before .before .before .before .before .before .before .before .r .given .1) k (c .before .before .before .before .before .before .before .opened .ensures)) (c .before .before .before .before .before .before .loop .inv .2 d₀ n i t₀ d (group-inner _ _ _ (c .before .before .before .before .before .before .before .before .before .before .before .«open» .ensures) (c .before .before .before .before .before .before .before .before .before .r .given .1) k (c .before .before .before .before .before .before .before .opened .ensures)) (group-opens _ k b (c .before .before .before .before .before .before .before .before .before .before .before .before .before .before .pre .1 .1) (c .before .before .before .before .before .before .before .before .before .before .before .«open» .ensures) (c .before .before .before .before .before .before .before .before .before .r .given .1))) (c .before .before .before .before .import-path .ensures) (c .enum-told2 .given .1))
 
   add-children : import-group-lts.Need-add-children told (import-group-at t) import-group.Post Inv-loop μ-loop
   add-children c = omega (arith, counting-few (c .before .before .before .before .before .before .before .loop .inv .0))
@@ -75,7 +76,7 @@ module _ (t : ℕ) where
   same-length-2 c = closed-kept (c .before .before .braced .ensures) ∙ kept-either (c .before .before .before .before .before .before .before .before .before .before .before .import-path .ensures) ∙ c .before .before .before .before .before .before .before .before .before .before .before .before .before .loop .inv .1
 
   returns-3 : import-group-lts.Need-returns-3 told (import-group-at t) import-group.Post Inv-loop μ-loop
-  returns-3 c = grouped-of (λ d₀ n i t₀ d e w k b. group-ends _ (group-inner _ _ _ (c .before .before .before .before .before .before .before .before .before .before .before .before .before .before .before .before .before .before .«open» .ensures) (c .before .before .before .before .before .before .before .before .before .before .before .before .before .before .before .before .r .given .1) k (c .before .before .before .before .before .before .before .before .before .before .before .before .before .before .opened .ensures)) (c .before .before .before .before .before .before .before .before .before .before .before .before .before .loop .inv .2 d₀ n i t₀ d (group-inner _ _ _ (c .before .before .before .before .before .before .before .before .before .before .before .before .before .before .before .before .before .before .«open» .ensures) (c .before .before .before .before .before .before .before .before .before .before .before .before .before .before .before .before .r .given .1) k (c .before .before .before .before .before .before .before .before .before .before .before .before .before .before .opened .ensures)) (group-opens _ k b (c .before .before .before .before .before .before .before .before .before .before .before .before .before .before .before .before .before .before .before .before .before .pre .1 .1) (c .before .before .before .before .before .before .before .before .before .before .before .before .before .before .before .before .before .before .«open» .ensures) (c .before .before .before .before .before .before .before .before .before .before .before .before .before .before .before .before .r .given .1))) (c .before .before .before .before .before .before .before .before .before .before .before .import-path .ensures) (c .before .before .before .before .before .before .before .r2 .given .1) (λ e. c .before .before .before .before .if1 .taken (c .before .before .before .before .before .word .ensures ∙ e)) (refl) (c .before .before .braced .ensures))
+  returns-3 c = grouped-of (λ d₀ n i t₀ d e w j k b. group-ends _ (group-inner _ _ _ (c .before .before .before .before .before .before .before .before .before .before .before .before .before .before .before .before .before .before .«open» .ensures) (c .before .before .before .before .before .before .before .before .before .before .before .before .before .before .before .before .r .given .1) k (c .before .before .before .before .before .before .before .before .before .before .before .before .before .before .opened .ensures)) (c .before .before .before .before .before .before .before .before .before .before .before .before .before .loop .inv .2 d₀ n i t₀ d (group-inner _ _ _ (c .before .before .before .before .before .before .before .before .before .before .before .before .before .before .before .before .before .before .«open» .ensures) (c .before .before .before .before .before .before .before .before .before .before .before .before .before .before .before .before .r .given .1) k (c .before .before .before .before .before .before .before .before .before .before .before .before .before .before .opened .ensures)) (group-opens _ k b (c .before .before .before .before .before .before .before .before .before .before .before .before .before .before .before .before .before .before .before .before .before .pre .1 .1) (c .before .before .before .before .before .before .before .before .before .before .before .before .before .before .before .before .before .before .«open» .ensures) (c .before .before .before .before .before .before .before .before .before .before .before .before .before .before .before .before .r .given .1))) (c .before .before .before .before .before .before .before .before .before .before .before .import-path .ensures) (c .before .before .before .before .before .before .before .r2 .given .1) (λ e. c .before .before .before .before .if1 .taken (c .before .before .before .before .before .word .ensures ∙ e)) (refl) (closed-by refl j (c .before .before .braced .ensures)))
 
   take-requires : import-group-lts.Need-take-requires told (import-group-at t) import-group.Post Inv-loop μ-loop
   take-requires c κs = search needs

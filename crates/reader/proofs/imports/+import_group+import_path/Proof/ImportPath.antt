@@ -27,10 +27,10 @@ use Rattle.parser.proofs.Here.word.Reads as word-reads
 use Rattle.reader.proofs.names.path_item.Reads as path-item-reads
 
 abbrev Inv-loop : import-path-lts.InvT-loop
-Inv-loop s table₀ limits first end₀ here₀ children₀ table end here children = Goes s limits (first .start) end₀ children₀ here₀ table₀ end children here table
+Inv-loop s table₀ at limits first end₀ here₀ children₀ table end here children = Goes s limits (first .start) end₀ children₀ here₀ table₀ end children here table
 
 abbrev μ-loop : import-path-lts.MeasureT-loop
-μ-loop s table₀ limits first end₀ here₀ children₀ table end here children = 70000 - nextOf here
+μ-loop s table₀ at limits first end₀ here₀ children₀ table end here children = 70000 - nextOf here
 
 module _ (t : ℕ) where
   abbrev told : import-path-lts.Claims

@@ -17,10 +17,10 @@ use Rattle.parser.proofs.Here.word.Reads as word-reads
 use Rattle.reader.proofs.types.question.Reads as question-reads
 
 abbrev Inv-loop : type-expr-lts.InvT-loop
-Inv-loop s table₀ found₀ here₀ table found here = Marks s found₀ here₀ table₀ found here table
+Inv-loop s table₀ at found₀ here₀ table found here = Marks s (at .rows) found₀ here₀ table₀ found here table
 
 abbrev μ-loop : type-expr-lts.MeasureT-loop
-μ-loop s table₀ found₀ here₀ table found here = length s + 1 - nextOf here
+μ-loop s table₀ at found₀ here₀ table found here = length s + 1 - nextOf here
 
 module _ (t : ℕ) where
   abbrev told : type-expr-lts.Claims
@@ -42,7 +42,7 @@ module _ (t : ℕ) where
   returns c = type-refused (c .before .before .before .before .before .before .before .before .pre .1) (c .before .before .before .before .type-base .ensures) (c .enum-told .given .1)
 
   loop-holds : type-expr-lts.Need-loop-holds told (type-expr-at t) type-expr.Post Inv-loop μ-loop
-  loop-holds c = λ f e g. g
+  loop-holds c = λ f e n g. g
 
   word-requires : type-expr-lts.Need-word-requires told (type-expr-at t) type-expr.Post Inv-loop μ-loop
   word-requires c κs = search needs
@@ -63,16 +63,16 @@ module _ (t : ℕ) where
   returns-2 c = not-both ((c .before .before .before .before .question .ensures (51 ∷ []) tt (is-word (sym (c .before .before .before .before .before .before .before .word .ensures) ∙ c .before .before .before .before .before .before .if1 .taken))) .0) (c .enum-told2 .given .1)
 
   loop-less : type-expr-lts.Need-loop-less told (type-expr-at t) type-expr.Post Inv-loop μ-loop
-  loop-less c = mark-falls (c .before .before .before .before .before .before .before .before .before .loop .inv _ refl (type-begins (c .before .before .before .before .before .before .before .before .before .before .before .before .before .before .before .before .before .before .before .pre .1) (c .before .before .before .before .before .before .before .before .before .before .before .before .before .before .before .type-base .ensures) (c .before .before .before .before .before .before .before .before .before .before .before .r .given .1))) (sym (c .before .before .before .before .before .before .before .before .word .ensures) ∙ c .before .before .before .before .before .before .before .if1 .taken) ((c .before .before .before .before .before .question .ensures (51 ∷ []) tt (is-word (sym (c .before .before .before .before .before .before .before .before .word .ensures) ∙ c .before .before .before .before .before .before .before .if1 .taken))) .0) (c .before .r2 .given .1)
+  loop-less c = mark-falls (c .before .before .before .before .before .before .before .before .before .loop .inv _ refl refl (type-begins (c .before .before .before .before .before .before .before .before .before .before .before .before .before .before .before .before .before .before .before .pre .1) (c .before .before .before .before .before .before .before .before .before .before .before .before .before .before .before .type-base .ensures) (c .before .before .before .before .before .before .before .before .before .before .before .r .given .1))) (sym (c .before .before .before .before .before .before .before .before .word .ensures) ∙ c .before .before .before .before .before .before .before .if1 .taken) ((c .before .before .before .before .before .question .ensures (51 ∷ []) tt (is-word (sym (c .before .before .before .before .before .before .before .before .word .ensures) ∙ c .before .before .before .before .before .before .before .if1 .taken))) .0) (c .before .r2 .given .1)
 
   loop-again : type-expr-lts.Need-loop-again told (type-expr-at t) type-expr.Post Inv-loop μ-loop
-  loop-again c = λ f e g. type-marks e (c .before .before .before .before .before .before .before .before .before .loop .inv f e g) (sym (c .before .before .before .before .before .before .before .before .word .ensures) ∙ c .before .before .before .before .before .before .before .if1 .taken) ((c .before .before .before .before .before .question .ensures (51 ∷ []) tt (is-word (sym (c .before .before .before .before .before .before .before .before .word .ensures) ∙ c .before .before .before .before .before .before .before .if1 .taken))) .0) ((c .before .before .before .before .before .question .ensures (51 ∷ []) tt (is-word (sym (c .before .before .before .before .before .before .before .before .word .ensures) ∙ c .before .before .before .before .before .before .before .if1 .taken))) .1) (c .before .r2 .given .1)
+  loop-again c = λ f e n g. type-marks e n (c .before .before .before .before .before .before .before .before .before .loop .inv f e n g) (sym (c .before .before .before .before .before .before .before .before .word .ensures) ∙ c .before .before .before .before .before .before .before .if1 .taken) ((c .before .before .before .before .before .question .ensures (51 ∷ []) tt (is-word (sym (c .before .before .before .before .before .before .before .before .word .ensures) ∙ c .before .before .before .before .before .before .before .if1 .taken))) .0) ((c .before .before .before .before .before .question .ensures (51 ∷ []) tt (is-word (sym (c .before .before .before .before .before .before .before .before .word .ensures) ∙ c .before .before .before .before .before .before .before .if1 .taken))) .1) (c .before .r2 .given .1)
 
   same-length-3 : type-expr-lts.Need-same-length-3 told (type-expr-at t) type-expr.Post Inv-loop μ-loop
-  same-length-3 c = kept-length ((c .before .before .loop .inv _ refl (type-begins (c .before .before .before .before .before .before .before .before .before .before .before .before .pre .1) (c .before .before .before .before .before .before .before .before .type-base .ensures) (c .before .before .before .before .r .given .1))) .going)
+  same-length-3 c = kept-length ((c .before .before .loop .inv _ refl refl (type-begins (c .before .before .before .before .before .before .before .before .before .before .before .before .pre .1) (c .before .before .before .before .before .before .before .before .type-base .ensures) (c .before .before .before .before .r .given .1))) .going)
 
   returns-3 : type-expr-lts.Need-returns-3 told (type-expr-at t) type-expr.Post Inv-loop μ-loop
-  returns-3 c = type-ends (c .before .before .loop .inv _ refl (type-begins (c .before .before .before .before .before .before .before .before .before .before .before .before .pre .1) (c .before .before .before .before .before .before .before .before .type-base .ensures) (c .before .before .before .before .r .given .1))) (λ e. c .if1 .left (c .before .word .ensures ∙ e)) refl
+  returns-3 c = type-ends (c .before .before .loop .inv _ refl refl (type-begins (c .before .before .before .before .before .before .before .before .before .before .before .before .pre .1) (c .before .before .before .before .before .before .before .before .type-base .ensures) (c .before .before .before .before .r .given .1))) (λ e. c .if1 .left (c .before .word .ensures ∙ e)) refl
 
   pub type-expr-closed : {M : Type 1} → type-expr-lts.Closed told (type-expr-at t) type-expr.Post M
   type-expr-closed = type-expr-lts.spec told (type-expr-at t) type-expr.Post Inv-loop μ-loop type-base-requires enum-known-r enum-told same-length returns loop-holds word-requires question-requires enum-known-r-2 enum-told-2 same-length-2 returns-2 loop-less loop-again same-length-3 returns-3

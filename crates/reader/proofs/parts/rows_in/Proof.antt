@@ -1,0 +1,25 @@
+use mathlib.Core.Path.{sym}
+use lib.ListN.{List·getD-eq-default}
+use borrow.Author.Needs.{needs}
+use native.Mathlib.Omega.{arith}
+use Rattle.reader.proofs.parts.rows_in.Statement.{statement}
+use Rattle.reader.proofs.parts.rows_in.Tie as tie
+
+mul-result : tie.Need-mul-result
+mul-result c = search needs
+
+shared-slice-read-result : tie.Need-shared-slice-read-result
+shared-slice-read-result c = search needs
+
+cast-result : tie.Need-cast-result
+cast-result c = omega (arith, c .shared-slice-known .given (c .before .before .args .i))
+
+returns : tie.Need-returns
+returns c = search needs
+
+returns-2 : tie.Need-returns-2
+returns-2 c = sym (List·getD-eq-default (c .before .args .list .now) 0 (c .if1 .left))
+
+pub rows-in-spec : {M : Type 1} → statement M
+rows-in-spec =
+    tie.close (tie.spec mul-result shared-slice-read-result cast-result returns returns-2)
