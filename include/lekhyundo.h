@@ -85,6 +85,13 @@ void lekhyundo_literal(const uint8_t *source, size_t source_length, uint64_t cod
  * end - start; 7 is not given then. */
 void lekhyundo_float(const uint8_t *literal, size_t length, uint64_t *answer, size_t answer_length);
 
+/* The node under the cursor: of a finished table without its zeros (LEKHYUNDO_WIDTH numbers for each of (a)'s or (b)'s rows) the last leaf,
+ * a row without children, whose span holds the byte at a position. Four numbers: 0, the leaf's span, and its index from 0. Or a refusal at
+ * 0, 0: 12 where the size of a row that the search came to is wrong (0, more than the rows up to it, or not 1 at a leaf), which
+ * no table of (a) or (b) has; 13 where no leaf holds the byte. Any numbers may be lent as a table; what is left over behind
+ * the last whole row isn't looked at. A row that doesn't hold the byte is skipped with all under it. */
+void lekhyundo_node(const uint64_t *table, size_t table_length, uint64_t position, uint64_t *answer, size_t answer_length);
+
 #ifdef __cplusplus
 }
 #endif

@@ -9,6 +9,7 @@ mod c {
         pub fn lekhyundo_name(s: *const u8, n: usize, kind: u64, start: usize, end: usize) -> usize;
         pub fn lekhyundo_decode(s: *const u8, n: usize, out: *mut u8, size: usize, answer: *mut u64, four: usize);
         pub fn lekhyundo_float(s: *const u8, n: usize, answer: *mut u64, five: usize);
+        pub fn lekhyundo_node(table: *const u64, size: usize, position: u64, answer: *mut u64, four: usize);
     }
 }
 
@@ -36,7 +37,7 @@ pub const TEXT: u64 = 47;
 /// Kind of a float's row; `float_of` gives its number.
 pub const FLOAT: u64 = 11;
 
-/// A number from 1 to 11 or 14, its place, and what is needed for 10.
+/// A number from 1 to 14, its place, and what is needed for 10.
 #[derive(Clone, Copy, Debug, PartialEq, Eq)]
 pub struct Refusal {
     pub number: u64,
@@ -60,6 +61,8 @@ impl Refusal {
             9 => "nested too deep",
             10 => "no room",
             11 => "source ends too early",
+            12 => "size of a row wrong",
+            13 => "no leaf there",
             14 => "float with too many digits",
             _ => "unknown number",
         }
@@ -144,6 +147,15 @@ pub fn subtree(rows: &[Row], row: usize) -> &[Row] {
     let up_to = rows.get(..=row).unwrap_or_default();
     let size = up_to.last().map_or(0, |row| row[SIZE]) as usize;
     up_to.len().checked_sub(size).map_or(&[], |first| &up_to[first..])
+}
+
+/// The last leaf, a row without children, whose span holds the byte at a position: its index. 13 where there is none; 12 where a size
+/// on the way is wrong, which no table of a `Reader` has.
+pub fn at(rows: &[Row], position: u64) -> Result<usize, Refusal> {
+    let mut answer = [0; 4];
+    // SAFETY: as above; rows are their numbers, one behind the other.
+    unsafe { c::lekhyundo_node(rows.as_ptr().cast(), rows.len() * WIDTH, position, answer.as_mut_ptr(), 4) };
+    taken(answer)
 }
 
 /// (d) The text of a name row; empty for any other row and for a span that doesn't fit.

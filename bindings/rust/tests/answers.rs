@@ -1,4 +1,4 @@
-use lekhyundo::{F_STRING, FLOAT, Float, Reader, Refusal, SIZE, TEXT, Token, WIDTH, decode, float, float_of, name, subtree, tokens};
+use lekhyundo::{F_STRING, FLOAT, Float, Reader, Refusal, SIZE, TEXT, Token, WIDTH, at, decode, float, float_of, name, subtree, tokens};
 
 fn refusal(number: u64, start: usize, end: usize) -> Refusal {
     Refusal { number, start, end, needed: 0 }
@@ -133,4 +133,21 @@ fn a_row_of_a_float_has_its_number() {
     assert_eq!(float_of(source, &[1, 6, 11, 0, 0, 0, 1]), Err(refusal(7, 6, 11)));
     assert_eq!(float_of(source, &[FLOAT, 60, 90, 0, 0, 0, 1]), Err(refusal(7, 60, 90)));
     assert_eq!(float_of(source, &[FLOAT, 9, 8, 0, 0, 0, 1]), Err(refusal(7, 9, 8)));
+}
+
+#[test]
+fn the_leaf_under_a_byte() {
+    let mut reader = Reader::default();
+    let mut rows: Vec<_> = reader.tree(b"const A: u8 = 1;").unwrap().collect();
+    assert_eq!(at(&rows, 6), Ok(0));
+    // Each end is outside; the sign before the type and the whole line are in no leaf.
+    assert_eq!(at(&rows, 7), Err(refusal(13, 0, 0)));
+    assert_eq!(at(&rows, 10), Ok(1));
+    assert_eq!(at(&rows, 14), Ok(4));
+    assert_eq!(at(&rows, u64::MAX), Err(refusal(13, 0, 0)));
+    assert_eq!(at(&[], 0), Err(refusal(13, 0, 0)));
+    rows[4][SIZE] = 2;
+    assert_eq!(at(&rows, 14), Err(refusal(12, 0, 0)));
+    // The tree's row is skipped whole, with what stands under it.
+    assert_eq!(at(&rows, 16), Err(refusal(13, 0, 0)));
 }

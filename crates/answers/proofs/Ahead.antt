@@ -333,7 +333,7 @@ module _ (s : List ℕ) where
   unfolding pairAt
   quote-in at e = let h = byte-inside (at + 1) 34 refl (right-true (eqb (byteAt s at) 102) (eqb (byteAt s (at + 1)) 34) e) in omega arith
 
-  steps-at : (at : ℕ) → at < length s → Steps at (tokenAt s at)
+  pub steps-at : (at : ℕ) → at < length s → Steps at (tokenAt s at)
   unfolding tokenAt refused
   steps-at at h =
       steps-or (goes-ipv6 at)

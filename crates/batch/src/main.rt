@@ -1,4 +1,4 @@
-// Answers cases from standard input, one after the other: a line `ENTRY LENGTH` or `ENTRY LENGTH ROOM`, then LENGTH bytes.
+// Answers cases from standard input, one after the other: a line `ENTRY LENGTH` or `ENTRY LENGTH ROOM`, for `n` `n LENGTH POSITION`, then LENGTH bytes.
 ghost use mathlib.Core.Path.{_≡_};
 ghost use lib.ListN.{length};
 ghost use Prim.Native.Nat.{_*_};
@@ -10,57 +10,17 @@ use libc::STDOUT_FILENO;
 const MOST_CASES: usize = 1000000;
 
 // More room than any case asks for.
-const ENOUGH: usize = 1000000;
+const ENOUGH: u64 = 1000000;
 
 // More rows than any case asks room for.
 const MOST_ROWS: usize = 10240;
 
-// The next byte of the cases, a newline behind the last.
-fn next_byte() -> u8 {
-    let mut one = [b'\n'; 1];
-    io::read_full(STDIN_FILENO, &mut one);
-    one[0]
-}
-
-fn wide(b: u8) -> usize
-    ensures { λ r. ⌜ r ≡ b ⌝ }
-{
-    b as usize
-}
-
-// A number of a header and the byte behind it.
-struct Numeral {
-    value: usize,
-    behind: u8,
-}
-
-// The next number of a header, of at most six digits, and the byte behind it taken too.
-fn figure() -> Numeral {
-    let mut value: usize = 0;
-    let mut behind = b'0';
-    let mut digits: usize = 0;
-    while digits < 7 {
-        behind = next_byte();
-        if behind < 48 {
-            return Numeral { value, behind };
-        }
-        if 57 < behind {
-            return Numeral { value, behind };
-        }
-        if value < 1000000 {
-            value = value * 10 + wide(behind - 48);
-        }
-        digits += 1;
-    }
-    Numeral { value, behind }
-}
-
-// The room, and enough where the line ends without one.
-fn room_behind(behind: u8) -> usize {
+// The room or the position, and enough where the line ends without one.
+fn room_behind(behind: u8) -> u64 {
     if behind == b'\n' {
         return ENOUGH;
     }
-    let room = figure();
+    let room = decimals::figure();
     room.value
 }
 
@@ -88,27 +48,37 @@ fn expression(source: &[u8], room: usize, table: &mut [u64]) {
     }
 }
 
-// Entries: `a` source to tree, `b` to one expression, `c` to token list, `e` a string token decoded, `f` the number of a float.
-fn answer(entry: u8, source: &[u8], room: usize, table: &mut [u64]) {
+// The leaf that holds a byte, of the table whose numbers stand in a text.
+fn node(text: &[u8], position: u64, table: &mut [u64]) {
+    let count = decimals::numbers(text, table);
+    if count <= table.len() {
+        print::answer_node(&table[..count], position);
+    }
+}
+
+// Entries: `a` source to tree, `b` to one expression, `c` to token list, `e` a string token decoded, `f` the number of a float,
+// `n` the leaf that holds a byte.
+fn answer(entry: u8, source: &[u8], room: u64, table: &mut [u64]) {
     match entry {
-        b'a' => tree(source, room, table),
-        b'b' => expression(source, room, table),
-        b'c' => print::answer_tokens(source, room),
-        b'e' => print::answer_decode(source, room),
+        b'a' => tree(source, room as usize, table),
+        b'b' => expression(source, room as usize, table),
+        b'c' => print::answer_tokens(source, room as usize),
+        b'e' => print::answer_decode(source, room as usize),
         b'f' => print::answer_float(source),
+        b'n' => node(source, room, table),
         _ => {}
     }
 }
 
 // Answers the next case, if there is one and the buffer holds it.
 fn case(buffer: &mut [u8], table: &mut [u64]) -> bool {
-    let entry = next_byte();
+    let entry = decimals::next_byte();
     if entry == b'\n' {
         return false;
     }
-    next_byte();
-    let first = figure();
-    let length = first.value;
+    decimals::next_byte();
+    let first = decimals::figure();
+    let length = first.value as usize;
     let room = room_behind(first.behind);
     if buffer.len() < length {
         return false;

@@ -14,7 +14,7 @@ use Rattle.grammar.specs.Subtrees.{total, Trees, none, more, Subtree, Ea
 use Rattle.grammar.proofs.Frame.{write-phrase, write-rest}
 use Rattle.grammar.proofs.Sizes.{row-size, write-sized}
 
-total-append : (xs ys : List Row) → total (xs ++ ys) ≡ total xs + total ys
+pub total-append : (xs ys : List Row) → total (xs ++ ys) ≡ total xs + total ys
 total-append [] ys = omega arith
 total-append (r ∷ xs) ys = let h = total-append xs ys in omega (arith, h)
 
@@ -115,22 +115,22 @@ rows-in [] = []
 rows-in (own x ∷ xs) = rows-in xs
 rows-in (child r ∷ xs) = r ∷ rows-in xs
 
-rows-in-count : (xs : List Item) → count xs ≡ length (rows-in xs)
+pub rows-in-count : (xs : List Item) → count xs ≡ length (rows-in xs)
 rows-in-count [] = refl
 rows-in-count (own x ∷ xs) = rows-in-count xs
 rows-in-count (child r ∷ xs) = ap suc (rows-in-count xs)
 
-rows-in-sizes : (xs : List Item) → sizes xs ≡ total (rows-in xs)
+pub rows-in-sizes : (xs : List Item) → sizes xs ≡ total (rows-in xs)
 rows-in-sizes [] = refl
 rows-in-sizes (own x ∷ xs) = rows-in-sizes xs
 rows-in-sizes (child r ∷ xs) = ap (λ (n : ℕ). r .size + n) (rows-in-sizes xs)
 
-rows-in-append : (xs ys : List Item) → rows-in (xs ++ ys) ≡ rows-in xs ++ rows-in ys
+pub rows-in-append : (xs ys : List Item) → rows-in (xs ++ ys) ≡ rows-in xs ++ rows-in ys
 rows-in-append [] ys = refl
 rows-in-append (own x ∷ xs) ys = rows-in-append xs ys
 rows-in-append (child r ∷ xs) ys = ap (λ (rs : List Row). r ∷ rs) (rows-in-append xs ys)
 
-rows-in-children : (xs : List Item) → rows-in (children-of xs) ≡ rows-in xs
+pub rows-in-children : (xs : List Item) → rows-in (children-of xs) ≡ rows-in xs
 rows-in-children [] = refl
 rows-in-children (own x ∷ xs) = rows-in-children xs
 rows-in-children (child r ∷ xs) = ap (λ (rs : List Row). r ∷ rs) (rows-in-children xs)

@@ -91,8 +91,8 @@ detail-for k sign =
 -- A literal's row is what its token says: "Rows 10 to 14 hold their value (`true` 1, first octet highest), but a float 0."
 abbrev pub literal-of : List Item → ℕ → ℕ → Row
 literal-of [] c z = record { kind = kinds.NONE; start = 0; end = 0; children = c; value = 0; detail = 0; size = z }
-literal-of (own x ∷ xs) c z = record { kind = x .kind; start = x .start; end = x .end; children = c; value = x .value; detail = x .detail; size = z }
-literal-of (child r ∷ xs) c z = record { kind = r .kind; start = r .start; end = r .end; children = c; value = r .value; detail = r .detail; size = z }
+literal-of (own x ∷ xs) c z = record { kind = x .kind; start = x .start; end = ends (own x ∷ xs); children = c; value = x .value; detail = x .detail; size = z }
+literal-of (child r ∷ xs) c z = record { kind = r .kind; start = r .start; end = ends (child r ∷ xs); children = c; value = r .value; detail = r .detail; size = z }
 
 -- The row of kind k over what the phrase has; "`(1: ..)`: value 1 if that part is there, else 0". Its size is one, and those of
 -- its children.

@@ -1,4 +1,4 @@
--- Two answers that the C functions of (a) and (b) permit coincide, and so do the tables; and so do two answers to a float.
+-- Two answers that the C functions of (a) and (b) permit coincide, and so do the tables; and so do two answers to a float, and to a position.
 use mathlib.Core.Path.{_≡_, sym, ap, _∙_}
 use mathlib.Core.List.{List}
 use mathlib.Core.Bool.{Bool, true}
@@ -8,9 +8,11 @@ use Rattle.chars.specs.declared.Answer.{Answer}
 use Rattle.answers.proofs.Determined.{one-permitted}
 use Rattle.literals.specs.declared.Answer as literals
 use Rattle.literals.proofs.Answered.{one-answer}
+use Rattle.nodes.proofs.Search as nodes
 use Rattle.lekhyundo.specs.Numbers.{answerNumbers, floatNumbers}
 use Rattle.lekhyundo.specs.Entered.{Entered}
 use Rattle.lekhyundo.specs.Floated.{Floated}
+use Rattle.lekhyundo.specs.Searched.{Searched}
 
 pub one-entered : (tree : Bool) (s : List ℕ) (size : ℕ) {t u run x y : List ℕ} → Entered tree s size t run x → Entered tree s size u run y → (t ≡ u) × (x ≡ y)
 one-entered tree s size {run = run} a b =
@@ -19,3 +21,6 @@ one-entered tree s size {run = run} a b =
 
 pub one-floated : (text : List ℕ) {run x y : List ℕ} → Floated text run x → Floated text run y → x ≡ y
 one-floated text {run} a b = a .numbers ∙ ap (λ (q : literals.Answer). sets run 0 (floatNumbers q)) (one-answer text (a .answer) (b .answer) (a .permitted) (b .permitted)) ∙ sym (b .numbers)
+
+pub one-searched : (table : List ℕ) (position : ℕ) {run x y : List ℕ} → Searched table position run x → Searched table position run y → x ≡ y
+one-searched table position {run} a b = a .numbers ∙ ap (λ (q : Answer). sets run 0 (answerNumbers q)) (nodes.one-answer table position (a .permitted) (b .permitted)) ∙ sym (b .numbers)

@@ -1,3 +1,4 @@
 pub mod Numbers
 pub mod Entered
 pub mod Floated
+pub mod Searched

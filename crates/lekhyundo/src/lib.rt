@@ -13,6 +13,7 @@ ghost use Rattle.values.specs.Literals.{literalAt, literalNumbers};
 ghost use Rattle.lekhyundo.specs.Numbers.{answerNumbers};
 ghost use Rattle.lekhyundo.specs.Entered.{Entered};
 ghost use Rattle.lekhyundo.specs.Floated.{Floated};
+ghost use Rattle.lekhyundo.specs.Searched.{Searched};
 use chars::Answer;
 use reader::entries;
 use tokens::Cursor;
@@ -159,4 +160,13 @@ pub extern "C" fn lekhyundo_float(t: &[u8], answer: &mut [u64])
     put(answer, 2, a.end as u64);
     put(answer, 3, a.width);
     put(answer, 4, a.bits);
+}
+
+// C-15: the last leaf of a table whose span holds a byte; number, its span, its index from 0.
+#[no_mangle]
+pub extern "C" fn lekhyundo_node(table: &[u64], position: u64, answer: &mut [u64])
+    ensures { λ r. ⌜ Searched (now (table .entry)) position (now (answer .entry)) (now (answer .exit)) ⌝ }
+{
+    let a = nodes::node_at(table, position);
+    put_answer(answer, a);
 }

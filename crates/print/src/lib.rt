@@ -156,3 +156,58 @@ pub fn answer_float(t: &[u8]) {
     }
     io::write_all(STDOUT_FILENO, b"\n");
 }
+
+// Where a leaf was found: `accepted INDEX START END`, or the refusal.
+fn node_line(a: Answer) {
+    if a.number == refusal::NONE {
+        io::write_all(STDOUT_FILENO, b"accepted");
+        number(a.count as u64);
+        number(a.start as u64);
+        number(a.end as u64);
+    } else {
+        refused(a.number, a.start, a.end);
+    }
+    io::write_all(STDOUT_FILENO, b"\n");
+}
+
+// C-15: the last leaf of a table that holds a byte.
+pub fn answer_node(table: &[u64], position: u64) {
+    let a = nodes::node_at(table, position);
+    node_line(a);
+}
+
+// The bytes between two places as a line.
+fn text_line(s: &[u8], start: usize, end: usize) {
+    if start <= end {
+        if end <= s.len() {
+            io::write_all(STDOUT_FILENO, &s[start..end]);
+        }
+    }
+    io::write_all(STDOUT_FILENO, b"\n");
+}
+
+// The last leaf of a source's rows that holds a byte, its row and its text.
+fn leaf(s: &[u8], table: &[u64], position: u64) {
+    let a = nodes::node_at(table, position);
+    node_line(a);
+    if a.number == refusal::NONE {
+        let row = a.count;
+        if row < table.len() / rows::WIDTH {
+            row_line(table, row * rows::WIDTH);
+        }
+        text_line(s, a.start, a.end);
+    }
+}
+
+// (a), and of its rows the last leaf that holds a byte.
+pub fn answer_leaf(s: &[u8], table: &mut [u64], position: u64) {
+    let a = entries::tree(s, table);
+    if a.number == refusal::NONE {
+        let count = a.count;
+        if count <= table.len() / rows::WIDTH {
+            leaf(s, &table[..count * rows::WIDTH], position);
+        }
+    } else {
+        head(a);
+    }
+}

@@ -41,6 +41,8 @@ unsafe extern "C" {
     );
     /// C-17; answer: number, start, end, width, bits.
     fn lekhyundo_float(source: *const u8, length: usize, answer: *mut u64, answer_length: usize);
+    /// C-15; answer: number, start, end, index.
+    fn lekhyundo_node(table: *const u64, table_length: usize, position: u64, answer: *mut u64, answer_length: usize);
 }
 
 fn tokens(source: &[u8], list: &mut [Token]) -> [u64; 4] {
@@ -188,6 +190,21 @@ fn float(case: &Case<'_>, out: &mut String) {
     }
 }
 
+/// C-15: the leaf of a table, its numbers in decimal with blanks between, that holds the byte at the position, which stands where others
+/// have the room.
+fn node(case: &Case<'_>, out: &mut String) {
+    let number = |text: &[u8]| std::str::from_utf8(text).ok().and_then(|text| text.parse::<u64>().ok());
+    let words = case.source.split(|byte| !byte.is_ascii_digit()).filter(|word| !word.is_empty());
+    let table: Vec<u64> = words.filter_map(number).collect();
+    let mut answer = [u64::MAX; 4];
+    // SAFETY: as above.
+    unsafe { lekhyundo_node(table.as_ptr(), table.len(), case.room, answer.as_mut_ptr(), answer.len()) };
+    match answer {
+        [0, start, end, index] => out.push_str(&format!("accepted {index} {start} {end}\n")),
+        [number, start, end, _] => write_refusal(out, Refusal { number, start, end }),
+    }
+}
+
 /// Into a list of exactly the tokens that there are.
 fn time_tokens(arguments: &[String]) -> std::io::Result<()> {
     let list = std::cell::RefCell::new(Vec::new());
@@ -225,6 +242,7 @@ fn main() -> std::io::Result<()> {
             b'a' | b'b' => rows(case, out),
             b'c' => token_list(case, out),
             b'f' => float(case, out),
+            b'n' => node(case, out),
             _ => decode(case, out),
         }),
     }

@@ -1,7 +1,8 @@
 //! The one protocol that the oracle, the full commit and our own code speak.
 //!
 //! Cases follow one another on standard input: a line `ENTRY LENGTH` or `ENTRY LENGTH ROOM`, then LENGTH bytes at
-//! once, then the next line. ENTRY is `a`, `b`, `c`, `e` or `f`; ROOM counts rows, tokens or bytes, enough if left out.
+//! once, then the next line. ENTRY is `a`, `b`, `c`, `e`, `f` or `n`; ROOM counts rows, tokens or bytes, enough if left out, and is
+//! the position for `n`.
 //! Each answer ends in an empty line. See ../README.md.
 
 use std::{
@@ -156,6 +157,7 @@ fn parse_header(line: &[u8]) -> Option<(u8, u64, u64)> {
         "c" => b'c',
         "e" => b'e',
         "f" => b'f',
+        "n" => b'n',
         _ => return None,
     };
     let length = parts.next()?.parse().ok()?;

@@ -1,0 +1,5 @@
+pub mod Order
+pub mod Table
+pub mod Laid
+pub mod Readings
+pub mod Places

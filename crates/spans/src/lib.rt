@@ -1,0 +1,1 @@
+// A row's span lies in its parent's; no code.
