@@ -10,7 +10,7 @@ use Rattle.rows.specs.Kinds as kinds
 use Rattle.grammar.specs.Grammar.{Parts}
 use Rattle.grammar.specs.Rows.{Row, blank, write, tree-row, rows}
 use Rattle.grammar.proofs.Subtrees.{each-row, rows-trees, tree-last, tree-count}
-use Rattle.answers.specs.Sizes.{SizedTable, RowSizes}
+use Rattle.answers.specs.Sizes.{RowSizes}
 use Rattle.answers.proofs.Determined.{accepted-reads}
 
 -- the tree's row

@@ -1,15 +1,14 @@
 -- C-14: the sizes of rows. A row's size counts the rows of its subtree, and the rows of a subtree stand together, its own last.
-use mathlib.Core.Path.{_≡_, refl, sym, ap, _∙_, subst}
+use mathlib.Core.Path.{_≡_, refl, ap}
 use mathlib.Core.List.{List, [], _∷_, _++_}
 use mathlib.Core.Bool.{Bool, true, false, cond}
 use Prim.Native.Nat.{ℕ, suc, _+_}
 use lib.Dec.{eqb}
 use lib.ListN.{length, length-append}
 use native.Mathlib.Omega.{arith}
-use Rattle.grammar.specs.Grammar.{Token, Parts, end, leaf, node, mark, one-of}
-use Rattle.grammar.specs.Table.{rest-kinds, literal-row}
-use Rattle.grammar.specs.Rows.{Row, Item, own, child, starts, ends, count, sizes, sign-of, detail-for, children-of, literal-of, row-of, Draft, blank, take-note, is-text, text-row, add-token, write}
-use Rattle.grammar.proofs.Frame.{write-phrase, write-rest}
+use Rattle.grammar.specs.Grammar.{Token}
+use Rattle.grammar.specs.Table.{literal-row}
+use Rattle.grammar.specs.Rows.{Row, Item, own, child, starts, ends, count, sizes, sign-of, detail-for, children-of, literal-of, row-of, Draft, is-text, text-row, add-token}
 
 pub sizes-append : (xs ys : List Item) → sizes (xs ++ ys) ≡ sizes xs + sizes ys
 sizes-append [] ys = omega arith
@@ -39,14 +38,6 @@ row-size k xs part = go (literal-of xs (count xs) (suc (sizes xs))) (record { ki
 abbrev pub Sized : Draft → Type 0
 Sized a = sizes (a .items) ≡ length (a .rows)
 
-pub note-sized : (k : ℕ) (a : Draft) → Sized a → Sized (take-note k a)
-unfolding take-note
-note-sized k a h = go (eqb k 0)
-  where
-    go : (b : Bool) → Sized (cond {A = Draft} b (record { rows = a .rows; items = a .items; part = 1 }) (record { rows = a .rows ++ (row-of k (a .items) (a .part) ∷ []); items = child (row-of k (a .items) (a .part)) ∷ []; part = 0 }))
-    go true = h
-    go false = let z = row-size k (a .items) (a .part) in let l = length-append (a .rows) (row-of k (a .items) (a .part) ∷ []) in omega (arith, z, l, h)
-
 pub own-sized : (x : Token) (a : Draft) → Sized a → Sized (record { rows = a .rows; items = a .items ++ (own x ∷ []); part = a .part })
 own-sized x a h = let o = sizes-append (a .items) (own x ∷ []) in omega (arith, o, h)
 
@@ -61,14 +52,3 @@ token-sized x a h = go (sizes-append (a .items) (own x ∷ [])) (sizes-append (a
 
 pub phrase-sized : (a b : Draft) → Sized a → Sized b → Sized (record { rows = a .rows ++ b .rows; items = a .items ++ children-of (b .items); part = a .part })
 phrase-sized a b h k = let x = sizes-append (a .items) (children-of (b .items)) in let y = sizes-children (b .items) in let l = length-append (a .rows) (b .rows) in omega (arith, x, y, l, h, k)
-
-pub write-sized : (p : Parts) (a : Draft) → Sized a → Sized (write p a)
-unfolding write
-write-sized end a h = h
-write-sized (leaf x p) a h = write-sized p (add-token x a) (token-sized x a h)
-write-sized (mark k p) a h = write-sized p (take-note k a) (note-sized k a h)
-write-sized (node n s p q) a h = go (write-sized q (write p a) (write-sized p a h)) (write-sized q (record { rows = a .rows ++ (write p blank) .rows; items = a .items ++ children-of ((write p blank) .items); part = a .part }) (phrase-sized a (write p blank) h (write-sized p blank refl))) (one-of n rest-kinds) refl
-  where
-    go : Sized (write q (write p a)) → Sized (write q (record { rows = a .rows ++ (write p blank) .rows; items = a .items ++ children-of ((write p blank) .items); part = a .part })) → (b : Bool) → one-of n rest-kinds ≡ b → Sized (write (node n s p q) a)
-    go x y true e = subst Sized (sym (write-rest n s p q a e)) x
-    go x y false e = subst Sized (sym (write-phrase n s p q a e)) y

@@ -12,7 +12,7 @@ use Rattle.grammar.specs.Table.{rest-kinds, literal-row}
 use Rattle.grammar.specs.Rows.{Row, Item, own, child, starts, ends, count, sizes, sign-of, detail-for, children-of, literal-of, row-of, Draft, blank, take-note, is-text, text-row, add-token, write, tree-row, rows-from, rows}
 use Rattle.grammar.specs.Subtrees.{total, Trees, none, more, Subtree, EachRow}
 use Rattle.grammar.proofs.Frame.{write-phrase, write-rest}
-use Rattle.grammar.proofs.Sizes.{row-size, write-sized}
+use Rattle.grammar.proofs.Sizes.{Sized, row-size}
 
 pub total-append : (xs ys : List Row) → total (xs ++ ys) ≡ total xs + total ys
 total-append [] ys = omega arith
@@ -198,6 +198,10 @@ write-trees (node n s p q) a t = go (write-trees q (write p a) (write-trees p a 
     go x y true e = subst Treed (sym (write-rest n s p q a e)) x
     go x y false e = subst Treed (sym (write-phrase n s p q a e)) y
 
+-- so what a reading has and what it wrote are the same rows
+pub write-sized : (p : Parts) → Sized (write p blank)
+write-sized p = rows-in-sizes ((write p blank) .items) ∙ sym (trees-length (write-trees p blank none))
+
 -- the rows of a reading are those of trees
 pub rows-trees : (tree : Bool) (len : ℕ) (p : Parts) → (roots : List Row) × Trees (rows tree len p) roots
 unfolding rows rows-from
@@ -212,4 +216,4 @@ tree-last len p = refl
 -- and its size is the number of all rows
 pub tree-count : (len : ℕ) (p : Parts) → (tree-row len (write p blank)) .size ≡ length (rows true len p)
 unfolding rows rows-from
-tree-count len p = let a = write p blank in let h = write-sized p blank refl in let l = length-append (a .rows) (tree-row len a ∷ []) in omega (arith, h, l)
+tree-count len p = let a = write p blank in let h = write-sized p in let l = length-append (a .rows) (tree-row len a ∷ []) in omega (arith, h, l)

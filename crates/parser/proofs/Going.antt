@@ -17,7 +17,8 @@ use Rattle.grammar.specs.Choice.{chosen}
 use Rattle.grammar.specs.Readings.{peek}
 use Rattle.grammar.specs.Runs.{view, Run}
 use Rattle.grammar.specs.Rows.{Draft, children-of, row-of, take-note, add-row, blank, sizes}
-use Rattle.grammar.proofs.Sizes.{Sized, row-size, own-sized, phrase-sized, write-sized}
+use Rattle.grammar.proofs.Sizes.{Sized, row-size, own-sized, phrase-sized}
+use Rattle.grammar.proofs.Subtrees.{write-sized}
 use Rattle.grammar.specs.Rows as grammar
 use Rattle.grammar.specs.Refusals.{Why, want, amiss, past, ask-number, said, Stops, stops-none, stops-in}
 use Rattle.grammar.specs.Phrases as phrases
@@ -192,7 +193,7 @@ stops-with s {i = i} {z = z} {y = y} e (stops-in {a = a} q g) = stops-in q (subs
 
 -- what it left is sized
 pub read-sized : (s : List ℕ) {d : Counts} {o : Scope} {n i z : ℕ} {b : Draft} → phrases.Read (source s) language d o n i z b → Sized b
-read-sized s u = subst Sized (u .draft) (write-sized (u .parts) blank refl)
+read-sized s u = subst Sized (u .draft) (write-sized (u .parts))
 
 -- the phrase that stands next, as its reader is asked for it
 abbrev pub next-phrase : Phrase → Counts → ℕ → Here → List ℕ → Phrase

@@ -28,7 +28,7 @@ use Rattle.parser.specs.declared.Stmt.{Stmt}
 use Rattle.parser.specs.Places.{wordOf, startOf, endOf, nextOf, passed, later, nodeOf, putOver, past, unused, unusedAt, expected, opening, took}
 use Rattle.parser.specs.Counted.{counts, opened, plain as plainly}
 use Rattle.parser.specs.Going.{Stands, lone, many, withToken, rowOver, Phrase, Going, Stopped, Answers}
-use Rattle.parser.proofs.Standing.{here-rows, next-small, past-word, is-word, the-word, is-taken}
+use Rattle.parser.proofs.Standing.{next-small, past-word, is-word, the-word, is-taken}
 use Rattle.parser.proofs.Going.{at, takes, out, last, alone, none-of, parts, writes, reads-one, ends, refuses-word, refuses-in, whole-of, stopped-of, done, stopped, relays, fewer}
 use Rattle.parser.proofs.Picks.{On, begins-any, into-on, into-off, refuses-off}
 use Rattle.parser.proofs.Sides.{none-yet}

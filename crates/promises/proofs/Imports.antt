@@ -26,7 +26,7 @@ use Rattle.parser.specs.declared.Read.the-variants.{Done, Refused}
 use Rattle.parser.specs.Places.{wordOf, endOf, nextOf, passed, later, unused, nodeOf, sizeFrom, putOver, plainRow, expected, opening, startOf}
 use Rattle.parser.specs.Counted.{counts, opened, plain as plainly, Alike}
 use Rattle.parser.specs.Going.{Stands, store, many, Phrase, Going, Whole, Answers}
-use Rattle.parser.proofs.Standing.{here-rows, next-small, past-word, is-word, the-word}
+use Rattle.parser.proofs.Standing.{next-small, past-word, is-word, the-word}
 use Rattle.parser.proofs.Tables.{put-length}
 use Rattle.parser.proofs.Going.{at, takes, out, last, alone, writes, reads-one, ends, refuses-word, done, stopped, whole-of, relays, as-many, fewer, few-rows}
 use Rattle.parser.proofs.Picks.{begins-any, into-on, into-off, refuses-off}

@@ -4,21 +4,21 @@ use mathlib.Core.Path.{_≡_, refl, sym, ap, _∙_, subst}
 use mathlib.Core.List.{List, [], _∷_, _++_, append-nil}
 use mathlib.Core.Bool.{Bool, true, false, not, _&&_, _||_, cond}
 use mathlib.Core.Logic.{inl, inr}
-use Prim.Native.Nat.{ℕ, suc, _≤_}
+use Prim.Native.Nat.{ℕ, _≤_}
 use lib.Dec.{T, eqb}
 use native.Mathlib.Omega.{arith}
-use Rattle.grammar.specs.Grammar.{Ask, Symbol, token, phrase, unless, note, left-side, text, same, Token, found, Stream, Parts, end, leaf, node, mark, Language, one-of, In, alternatives}
+use Rattle.grammar.specs.Grammar.{Ask, Symbol, token, phrase, same, Token, found, Stream, Parts, end, leaf, node, mark, Language, one-of}
 use Rattle.grammar.specs.Limits.{Counts}
 use Rattle.grammar.specs.Readings.{Reads, reads-end, reads-token, reads-phrase, reads-unless, reads-note, reads-side, reads-text, Is}
 use Rattle.grammar.specs.Kinds.{DECLARATIONS}
 use Rattle.grammar.specs.Table.{rest-kinds}
-use Rattle.grammar.specs.Rows.{Row, Item, own, child, start-of, end-of, children-of, row-of, Draft, blank, take-note, is-text, text-row, add-token, write}
+use Rattle.grammar.specs.Rows.{Row, Item, own, child, children-of, row-of, Draft, blank, take-note, is-text, text-row, add-token, write}
 use Rattle.grammar.proofs.Bools.{and-l, and-r, or-cases, implied}
 use Rattle.grammar.proofs.Pass.{passes-at}
 use Rattle.grammar.proofs.Frame.{write-phrase, write-rest}
 use Rattle.grammar.proofs.Subtrees.{rows-in, rows-in-append, rows-in-children}
 use Rattle.spans.specs.Nested.{nothing, Nested, none, more}
-use Rattle.spans.proofs.Order.{nested-append, Within, within-le, within-to, within-append, within-children, some-item, some-child, child-item, row-span, row-within, row-nested}
+use Rattle.spans.proofs.Order.{nested-append, Within, within-append, within-children, some-item, some-child, child-item, row-span, row-within, row-nested}
 use Rattle.spans.proofs.Table.{leaves, goes-on, begins, filled, fills, all-filled}
 
 item-more : (xs ys : List Item) → T (some-item xs) → T (some-item (xs ++ ys))

@@ -4,12 +4,10 @@ use mathlib.Core.List.{List, [], _∷_, _++_, append-assoc, append-nil}
 use mathlib.Core.Bool.{Bool, true, false, cond}
 use Prim.Native.Nat.{ℕ, suc, _+_, _≤_}
 use lib.Dec.{T, eqb}
-use lib.ListN.{length}
 use native.Mathlib.Omega.{arith}
-use Rattle.grammar.specs.Grammar.{Token}
 use Rattle.grammar.specs.Table.{literal-row}
 use Rattle.grammar.specs.Rows.{Row, Item, own, child, start-of, end-of, starts, ends, count, sizes, sign-of, detail-for, children-of, literal-of, row-of}
-use Rattle.grammar.specs.Subtrees.{total, Trees}
+use Rattle.grammar.specs.Subtrees.{Trees}
 use Rattle.grammar.specs.Subtrees as trees
 use Rattle.grammar.proofs.Sizes.{row-size}
 use Rattle.grammar.proofs.Subtrees.{rows-in, rows-in-count, rows-in-sizes, row-children}

@@ -2,7 +2,7 @@
 -- gives that end." So a row's span lies in its parent's.
 use mathlib.Core.Path.{_≡_}
 use mathlib.Core.List.{List, [], _∷_, _++_}
-use Prim.Native.Nat.{ℕ, suc, _≤_}
+use Prim.Native.Nat.{suc, _≤_}
 use lib.ListN.{length}
 use Rattle.grammar.specs.Rows.{Row}
 use Rattle.grammar.specs.Subtrees.{total}
