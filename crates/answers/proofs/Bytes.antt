@@ -1,28 +1,22 @@
--- What the theory says of a source's bytes: the rows are bounded, and a refused token is the first that can't go there.
+-- What the theory says of a source's bytes: the rows are bounded, and there is an answer.
 use mathlib.Core.Path.{_≡_, refl}
 use mathlib.Core.List.{List}
 use mathlib.Core.Bool.{Bool}
-use Prim.Native.Nat.{ℕ, _+_, _*_, _≤_, _<_}
+use Prim.Native.Nat.{ℕ, _+_, _*_, _≤_}
 use lib.ListN.{length, replicate}
 use native.Mathlib.Omega.{arith}
 use Rattle.chars.specs.declared.Answer as chars
 use Rattle.tokens.specs.declared.Whole.{Whole}
 use Rattle.tokens.specs.declared.Whole.the-variants.{Fine, Refused as Bad}
 use Rattle.tokens.specs.Tokens.{wholeOf, refusal}
-use Rattle.grammar.specs.Words.{f-quote}
-use Rattle.grammar.specs.Grammar.{Token, found, over, wrong, Parts}
+use Rattle.grammar.specs.Grammar.{Token, found, Parts}
 use Rattle.grammar.specs.Readings.{Text}
 use Rattle.grammar.specs.Rows.{rows}
 use Rattle.grammar.specs.Language.{roto, goal}
-use Rattle.grammar.specs.Refusals.{Why, Refusal, said}
-use Rattle.grammar.specs.Answers.{Answer, refused, Answers}
-use Rattle.grammar.specs.Culprit.{Clean, Before, FreeText, Culprit}
 use Rattle.grammar.proofs.Demand.{row-bound, an-answer}
-use Rattle.grammar.proofs.Culprits.{refusal-6, refusal-11}
 use Rattle.answers.specs.Source.{source}
 use Rattle.answers.specs.Entries.{answerFor, tableFor, Permitted, early, read}
 use Rattle.answers.proofs.Ahead.{ahead, tokens-take, pieces-take}
-use Rattle.answers.proofs.Scans.{look-few}
 
 module _ (tests tree : Bool) (s : List ℕ) where
   -- at most 1.5 rows a byte and one more
@@ -32,17 +26,6 @@ module _ (tests tree : Bool) (s : List ℕ) where
   -- 98,304 rows serve any source
   pub rows-fit : {p : Parts} → Text (source s) (roto tests) (goal tree) 0 p → length s ≤ 65535 → length (rows tree (length s) p) ≤ 98304
   rows-fit x h = let k = rows-bound x in omega arith
-
-  -- C-24: before a refusal 6 stand tokens that begin some text; with the refused one they begin none
-  few : (at n a b : ℕ) → (source s) .look at ≡ wrong n a b → n < 6
-  few at n a b e = look-few s at n a b e
-
-  pub culprit-6 : {a : Answer} (r : Refusal) → Clean (source s) f-quote 0 → Answers (source s) tests tree (length s) 0 a → a ≡ refused r → r .number ≡ 6 → (z : ℕ) × (y : Why) × (r ≡ said (length s) ((source s) .look z) y) × Culprit (source s) tests tree 0 z
-  culprit-6 = refusal-6 (source s) tests tree (ahead s) (tokens-take s) (length s) few
-
-  -- for 11, the whole source begins some text
-  pub culprit-11 : {a : Answer} (r : Refusal) → Clean (source s) f-quote 0 → Answers (source s) tests tree (length s) 0 a → a ≡ refused r → r .number ≡ 11 → (z : ℕ) × ((source s) .look z ≡ over) × (ts : List Token) × (p : Parts) × Before (source s) z 0 ts × FreeText tests tree ts p
-  culprit-11 = refusal-11 (source s) tests tree (ahead s) (tokens-take s) (length s) few
 
   -- every source has an answer, and by `one-permitted` no other
   pub a-permitted : (size : ℕ) → (a : chars.Answer) × (t : List ℕ) × Permitted tests tree s size a t

@@ -8,4 +8,6 @@ pub mod Worked
 pub mod Spelled
 pub mod Shebang
 pub mod Demands
+pub mod Culprits
+pub mod Named
 pub mod Sizes

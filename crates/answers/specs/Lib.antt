@@ -1,6 +1,7 @@
 pub mod Source
 pub mod Entries
 pub mod Demands
+pub mod Culprit
 pub mod Sizes
 pub mod Compute
 pub mod Cases

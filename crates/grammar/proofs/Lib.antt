@@ -10,6 +10,7 @@ pub mod Subtrees
 pub mod Count
 pub mod Barred
 pub mod Viable
+pub mod Tested
 pub mod Quiet
 pub mod Decided
 pub mod Checks

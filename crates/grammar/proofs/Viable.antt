@@ -5,16 +5,17 @@ use mathlib.Core.Bool.{Bool, true, false, not, _&&_, _||_, cond}
 use mathlib.Core.Option.{Option, none, some}
 use mathlib.Core.Logic.{_⊎_, inl, inr}
 use Prim.Native.Nat.{ℕ, suc, zero}
-use lib.Dec.{T, eqb, eqb→eq, eqb-refl}
+use lib.Dec.{T, eqb, eqb-refl}
 use native.Mathlib.Omega.{arith}
-use Rattle.grammar.specs.Grammar.{Ask, has-value, same, Stream, Symbol, token, phrase, unless, note, left-side, text, Rule, Token, Parts, end, leaf, node, mark, Language, one-of, alternatives, In, here, there}
+use Rattle.grammar.specs.Words.{text-then-hole, last-text}
+use Rattle.grammar.specs.Grammar.{Ask, has-value, same, Stream, Symbol, token, phrase, unless, note, left-side, text, Rule, Token, found, Parts, end, leaf, node, mark, Language, one-of, alternatives, In, here, there}
 use Rattle.grammar.specs.Limits.{Counts, after, inside}
 use Rattle.grammar.specs.Readings.{word-of, peek, Reads, reads-end, reads-token, reads-phrase, reads-unless, reads-note, reads-side, reads-text, Is, ReadingBy}
 use Rattle.grammar.specs.Runs.{view}
 use Rattle.grammar.specs.Refusals.{Why, torn, Stops, stops-want, stops-past, stops-token, stops-none, stops-in, stops-after, stops-barred, stops-unless, stops-note, stops-side-none, stops-side-in, stops-left, stops-side-after, stops-torn, stops-ill, stops-text}
 use Rattle.grammar.specs.Culprit.{lists, any, Before, before-here, before-there}
 use Rattle.grammar.specs.Choice.{hint-in}
-use Rattle.grammar.proofs.Bools.{and-l, and-r, or-cases, or-l, or-r, F→eq}
+use Rattle.grammar.proofs.Bools.{and-l, and-r, or-cases, or-l, or-r}
 use Rattle.grammar.proofs.Pass.{each-passes, passes-at}
 use Rattle.grammar.proofs.Good.{full, filled, all-full, full-filled}
 use Rattle.grammar.proofs.Core.{sound, chosen-in}
@@ -94,20 +95,23 @@ module _ (l : Language) where
   abbrev pub all-live : List Rule → Bool
   all-live = each-passes (λ n a. firm a && tails a)
 
-  record Grown (s : List Symbol) : Type 0 where
-    part : Parts
-    reads : (d : Counts) (c : List Token) → Free d s (onto part c) c part
+  pub record Grown (s : List Symbol) : Type 0 where
+    pub part : Parts
+    pub reads : (d : Counts) (c : List Token) → Free d s (onto part c) c part
 
   module _ (S : Stream) (silent : (i : S .Place) → T (torn (S .piece i))) where
-    -- the parts stand in the source
+    -- the parts stand in the source, so what holds behind them holds in front of them
+    pub upto-by : (B : S .Place → List Token → Type 0) → ((x : Token) (i j : S .Place) (ts : List Token) → S .look i ≡ found x j → B j ts → B i (x ∷ ts)) → {G : Ask → Counts → Token → Bool} {W : Bool → ℕ → Bool} {C : ℕ → S .Place → List Symbol → Type 0} {d : Counts} {s : List Symbol} {i r : S .Place} {p : Parts} {ts : List Token} → Reads S l G W C d s i r p → B r ts → B i (onto p ts)
+    upto-by B on reads-end v = v
+    upto-by B on (reads-token {x = x} {i = i} {j = j} e h k t) v = on x i j _ e (upto-by B on t v)
+    upto-by B on (reads-phrase c t u) v = upto-by B on t (upto-by B on u v)
+    upto-by B on (reads-unless h t) v = upto-by B on t v
+    upto-by B on (reads-note t) v = upto-by B on t v
+    upto-by B on (reads-text {i = i} e k t) v = untorn (S .piece i) (silent i) e
+    upto-by B on (reads-side c t h u) v = upto-by B on t (upto-by B on u v)
+
     pub upto-seq : {G : Ask → Counts → Token → Bool} {W : Bool → ℕ → Bool} {C : ℕ → S .Place → List Symbol → Type 0} {d : Counts} {s : List Symbol} {i r z : S .Place} {p : Parts} {ts : List Token} → Reads S l G W C d s i r p → Before S z r ts → Before S z i (onto p ts)
-    upto-seq reads-end v = v
-    upto-seq (reads-token e h k t) v = before-there e (upto-seq t v)
-    upto-seq (reads-phrase c t u) v = upto-seq t (upto-seq u v)
-    upto-seq (reads-unless h t) v = upto-seq t v
-    upto-seq (reads-note t) v = upto-seq t v
-    upto-seq (reads-text {i = i} e k t) v = untorn (S .piece i) (silent i) e
-    upto-seq (reads-side c t h u) v = upto-seq t (upto-seq u v)
+    upto-seq {z = z} t v = upto-by (Before S z) (λ x i j ts e b. before-there e b) t v
 
     bare : {G : Ask → Counts → Token → Bool} {W : Bool → ℕ → Bool} {C : ℕ → S .Place → List Symbol → Type 0} {d : Counts} {s : List Symbol} {i r : S .Place} {p : Parts} → Reads S l G W C d s i r p → (T (leafy p) → ⊥) → i ≡ r
     bare reads-end h = refl
@@ -130,8 +134,9 @@ module _ (l : Language) where
     peek-seq c (reads-side {p = p} {q = q} b t h u) (inl o) = elim (or-cases (leafy p) (leafy q) o) [ inl h ↦ peek-seq (onto q c) t (inl h) | inr h ↦ peek-seq (onto q c) t (inr (peek-seq c u (inl h))) ]
     peek-seq c (reads-side {q = q} b t h u) (inr e) = peek-seq (onto q c) t (inr (peek-seq c u (inr e)))
 
-  module _ (live : T (all-live (l .rules))) (filling : T (all-full l (l .rules))) where
-    grown : (k : ℕ) (s : List Symbol) → T (grows k s) → Grown s
+  -- `marked`: the word of a piece that a hole follows is the one before that of a last piece
+  module _ (live : T (all-live (l .rules))) (filling : T (all-full l (l .rules))) (marked : l .hole ≡ text-then-hole) where
+    pub grown : (k : ℕ) (s : List Symbol) → T (grows k s) → Grown s
     unfolding grows
     grown zero s t = absurd t
     grown (suc k) [] t = record { part = end; reads = λ d c. reads-end }
@@ -146,8 +151,8 @@ module _ (l : Language) where
     grown (suc k) (unless w ∷ s) t = absurd t
     grown (suc k) (text n ∷ s) t =
         let g = grown k s t in
-        let x = token-of (suc (l .hole)) in
-        record { part = leaf x (g .part); reads = λ d r. reads-text refl tt (subst (λ (b : Bool). Free (after has-value d) (cond b (phrase same n ∷ s) s) (onto (g .part) r) r (g .part)) (sym (F→eq (eqb (suc (l .hole)) (l .hole)) (λ e. let q = eqb→eq (suc (l .hole)) (l .hole) e in omega arith))) (g .reads (after has-value d) r)) }
+        let h : eqb last-text (l .hole) ≡ false = ap (eqb last-text) marked in
+        record { part = leaf (token-of last-text) (g .part); reads = λ d r. reads-text refl tt (subst (λ (b : Bool). Free (after has-value d) (cond b (phrase same n ∷ s) s) (onto (g .part) r) r (g .part)) (sym h) (g .reads (after has-value d) r)) }
     grown (suc k) (note j ∷ s) t = let g = grown k s t in record { part = mark j (g .part); reads = λ d r. reads-note (g .reads d r) }
     grown (suc k) (left-side n n₁ ∷ s) t =
         let x = given (short n) (λ a. grows k a) in
@@ -166,10 +171,10 @@ module _ (l : Language) where
     live-one : {a : List Symbol} (n : ℕ) → In a (alternatives l n) → T (firm a && tails a)
     live-one n o = passes-at (λ m a. firm a && tails a) (l .rules) n live o
 
-    firm-one : {a : List Symbol} (n : ℕ) → In a (alternatives l n) → T (firm a)
+    pub firm-one : {a : List Symbol} (n : ℕ) → In a (alternatives l n) → T (firm a)
     firm-one {a} n o = and-l (firm a) (tails a) (live-one n o)
 
-    tails-one : {a : List Symbol} (n : ℕ) → In a (alternatives l n) → T (tails a)
+    pub tails-one : {a : List Symbol} (n : ℕ) → In a (alternatives l n) → T (tails a)
     tails-one {a} n o = and-r (firm a) (tails a) (live-one n o)
 
     module _ (S : Stream) (silent : (i : S .Place) → T (torn (S .piece i))) where
@@ -207,11 +212,11 @@ module _ (l : Language) where
         upto : (c : List Token) → Before S z i (onto part c)
         looks : (c : List Token) → peek S l i ≡ peek lists l (onto part c)
 
-      forked : (n n₁ : ℕ) (s : List Symbol) → T (tails (left-side n n₁ ∷ s)) → (b : Bool) → Grown (cond b (phrase same n₁ ∷ s) s)
+      pub forked : (n n₁ : ℕ) (s : List Symbol) → T (tails (left-side n n₁ ∷ s)) → (b : Bool) → Grown (cond b (phrase same n₁ ∷ s) s)
       forked n n₁ s t true = grown 64 (phrase same n₁ ∷ s) (and-l (grows 64 (phrase same n₁ ∷ s)) (grows 64 s && tails s) t)
       forked n n₁ s t false = grown 64 s (and-l (grows 64 s) (tails s) (and-r (grows 64 (phrase same n₁ ∷ s)) (grows 64 s && tails s) t))
 
-      tails-on : (b : Bool) (n n₁ : ℕ) (s : List Symbol) → T (tails (left-side n n₁ ∷ s)) → T (tails (cond b (phrase same n₁ ∷ s) s))
+      pub tails-on : (b : Bool) (n n₁ : ℕ) (s : List Symbol) → T (tails (left-side n n₁ ∷ s)) → T (tails (cond b (phrase same n₁ ∷ s) s))
       tails-on true n n₁ s t = and-r (grows 64 (phrase same n₁ ∷ s)) (grows 64 s && tails s) t
       tails-on false n n₁ s t = and-r (grows 64 s) (tails s) (and-r (grows 64 (phrase same n₁ ∷ s)) (grows 64 s && tails s) t)
 

@@ -2,20 +2,25 @@
 -- and room set aside and literals taken as good, and with the named token added they begin none."
 use mathlib.Core.Path.{_≡_}
 use mathlib.Core.List.{List, [], _∷_}
-use mathlib.Core.Bool.{Bool, true}
+use mathlib.Core.Bool.{Bool, true, cond}
 use Prim.Native.Nat.{ℕ}
-use Rattle.grammar.specs.Grammar.{Ask, Token, Look, found, over, Stream, Parts}
+use Rattle.grammar.specs.Words.{text-then-hole, last-text}
+use Rattle.grammar.specs.Grammar.{Ask, Token, Look, found, over, Stream, Parts, one-of}
 use Rattle.grammar.specs.Limits.{Counts, zeros}
 use Rattle.grammar.specs.Readings.{ReadingBy}
 use Rattle.grammar.specs.Language.{roto, start}
 
--- A text is a list of tokens (and of pieces of text, where the grammar has such).
+-- A text is a list of tokens and, in strings with expressions inside (C-11), of pieces of text, which have words of their own.
 abbrev pub look-at : List Token → Look (List Token)
 look-at [] = over
 look-at (x ∷ ts) = found x ts
 
+abbrev pub piece-at : List Token → Look (List Token)
+piece-at [] = over
+piece-at (x ∷ ts) = cond (one-of (x .word) (text-then-hole ∷ last-text ∷ [])) (found x ts) over
+
 abbrev pub lists : Stream
-lists = record { Place = List Token; look = look-at; piece = look-at }
+lists = record { Place = List Token; look = look-at; piece = piece-at }
 
 -- Limits set aside and literals taken as good.
 abbrev pub any : Ask → Counts → Token → Bool

@@ -59,18 +59,23 @@ pub fn random(sink: &mut Sink, entry: Option<u8>, count: u64, seed: u64, damaged
             return;
         }
         let entry = entry.unwrap_or(if i % 2 == 0 { b'a' } else { b'b' });
-        let mut source = one(&mut r, entry);
-        if damaged {
-            for _ in 0..1 + r.below(2) {
-                match r.once_in(4) {
-                    true => stray(&mut r, &mut source),
-                    false => texts::damage(&mut r, &mut source),
-                }
-            }
-        }
+        let source = source(&mut r, entry, damaged);
         let room = if r.once_in(8) { Some(r.below(40) as u64) } else { None };
         sink.case(entry, &source, room);
     }
+}
+
+pub fn source(r: &mut Random, entry: u8, damaged: bool) -> Vec<u8> {
+    let mut source = one(r, entry);
+    if damaged {
+        for _ in 0..1 + r.below(2) {
+            match r.once_in(4) {
+                true => stray(r, &mut source),
+                false => texts::damage(r, &mut source),
+            }
+        }
+    }
+    source
 }
 
 /// Puts in a part of an f-string, or a text that is against the string rule.

@@ -1,6 +1,7 @@
 //! Cases made up in many ways, answered by two programs, compared.
 
 mod causes;
+mod culprits;
 mod grammar;
 mod lexing;
 mod random;
@@ -14,6 +15,9 @@ use run::{Options, Sink};
 const USAGE: &str = "\
 compare LEFT RIGHT [OPTION ..] MODE ..   compares two programs that speak the protocol of oracle/README.md
 compare cases [OPTION ..] MODE ..        prints the cases that a mode makes
+compare culprits COUNT SEED JUDGE NAMES [before|behind]
+                                         whether NAMES' refusals of damaged texts name the first token that can't go there,
+                                         judged by JUDGE; `before`, `behind`: another token is taken for it, to test this
 compare sample COUNT SEED PROGRAM ..     prints cases of entry (c) with PROGRAM's answers (see vectors/README.md)
 
 LEFT and RIGHT: oracle, full, ours (by tools/batch), or the path of a program.
@@ -140,11 +144,25 @@ fn generate(all: &Arguments, sink: &mut Sink) {
     }
 }
 
+/// Whether every refusal named its true culprit.
+fn culprits(words: &[String]) -> bool {
+    let shift = match words.get(4).map(String::as_str) {
+        None => culprits::Shift::None,
+        Some("before") => culprits::Shift::Before,
+        Some("behind") => culprits::Shift::Behind,
+        Some(_) => usage(),
+    };
+    culprits::run(&program(&words[2]), &program(&words[3]), number(&words[0]), number(&words[1]), shift)
+}
+
 fn main() {
     let words: Vec<String> = std::env::args().skip(1).collect();
     if words.first().is_some_and(|word| word == "sample") && words.len() > 3 {
         sample::print(number(&words[1]), number(&words[2]), &words[3..]);
         return;
+    }
+    if words.first().is_some_and(|word| word == "culprits") && words.len() > 4 {
+        std::process::exit(i32::from(!culprits(&words[1..])));
     }
     if words.first().is_some_and(|word| word == "cases") {
         let all = arguments([vec![], vec![]], &words[1..]);

@@ -149,7 +149,7 @@ pub fn print(generate: impl FnOnce(&mut Sink) + Send) {
     });
 }
 
-fn start(program: &[String]) -> Child {
+pub fn start(program: &[String]) -> Child {
     Command::new(&program[0])
         .args(&program[1..])
         .stdin(Stdio::piped())
@@ -158,7 +158,7 @@ fn start(program: &[String]) -> Child {
         .unwrap_or_else(|e| fail(&format!("{}: {e}", program[0])))
 }
 
-fn fail(message: &str) -> ! {
+pub fn fail(message: &str) -> ! {
     eprintln!("compare: {message}");
     std::process::exit(2);
 }
@@ -195,7 +195,7 @@ pub fn read_answer(stdout: &mut impl BufRead) -> Option<Vec<u8>> {
 }
 
 /// The numbers of a line of an answer, words left out.
-fn numbers(line: &[u8]) -> impl Iterator<Item = u64> {
+pub fn numbers(line: &[u8]) -> impl Iterator<Item = u64> {
     let text = std::str::from_utf8(line).unwrap_or("");
     text.split(' ').filter_map(|word| word.trim_end().parse().ok())
 }
