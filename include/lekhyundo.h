@@ -5,7 +5,7 @@
  * What each says is proved.
  *
  * (a) and (b) call themselves as deep as a source nests: 9 to 16 KiB of stack for filters of a few levels, 952 KiB for one that nests at all limits
- * at once (docs/ARCHITECTURE.md, "Stack"). A thread with 1 MiB of stack can read what strangers wrote.
+ * at once (docs/ARCHITECTURE.md, "Stack"); lekhyundo_constant takes 17 KiB more than (a) on the same source. A thread with 1 MiB of stack can read what strangers wrote.
  *
  * An answer is four numbers: the number of docs (README.md), where its place starts and ends, and a count: the rows or
  * bytes for 0, those needed for 10, else 0. If fewer than four are lent, only those are written.
@@ -91,6 +91,23 @@ void lekhyundo_float(const uint8_t *literal, size_t length, uint64_t *answer, si
  * no table of (a) or (b) has; 13 where no leaf holds the byte. Any numbers may be lent as a table; what is left over behind
  * the last whole row isn't looked at. A row that doesn't hold the byte is skipped with all under it. */
 void lekhyundo_node(const uint64_t *table, size_t table_length, uint64_t position, uint64_t *answer, size_t answer_length);
+
+/* The numbers of an instruction. */
+enum lekhyundo_instruction {
+    LEKHYUNDO_INSTRUCTION = 5
+};
+
+/* A constant worked out: the `const` declaration with a number, from 0, in the order of the source. Its rows are written to the table as by
+ * (a), and one instruction for each row of its expression to the list: kind, type, value, start, end. Room of the list is
+ * list_length / LEKHYUNDO_INSTRUCTION; 1,024 instructions serve any constant. Six numbers: 0, the place 0 and source_length, the
+ * instructions, the declared type (1 to 8: i8, i16, i32, i64, u8, u16, u32, u64; 10: f64; 12: bool) and the value in 64 bits: an integer with its
+ * sign drawn out, a float's bits (0x7ff8000000000000 for every NaN), 0 or 1. Accepted: zeros fill both tables behind the rows and the instructions.
+ * Refused: zeros throughout both, and two zeros behind the count: (a)'s numbers for the source, 15 where there is no such constant (0, 0), where its expression has
+ * more than 1,024 rows, where it has another type, or at the first row with a form not taken, a wrong type or too large a literal; 14 there for a
+ * float of too many digits; 10 with the instructions needed; 16 at the operator whose integer divisor is zero.
+ * A C program names -lm: `%` of f64 is fmod. */
+void lekhyundo_constant(const uint8_t *source, size_t source_length, uint64_t number, uint64_t *table, size_t table_length,
+                        uint64_t *list, size_t list_length, uint64_t *answer, size_t answer_length);
 
 #ifdef __cplusplus
 }

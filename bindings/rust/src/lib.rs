@@ -10,13 +10,16 @@ mod c {
         pub fn lekhyundo_decode(s: *const u8, n: usize, out: *mut u8, size: usize, answer: *mut u64, four: usize);
         pub fn lekhyundo_float(s: *const u8, n: usize, answer: *mut u64, five: usize);
         pub fn lekhyundo_node(table: *const u64, size: usize, position: u64, answer: *mut u64, four: usize);
+        pub fn lekhyundo_constant(
+            s: *const u8, n: usize, number: u64, table: *mut u64, size: usize, list: *mut u64, room: usize, answer: *mut u64, six: usize,
+        );
     }
 }
 
 /// Rows that are enough for any source.
 pub const MOST_ROWS: usize = 98_304;
 
-/// Bytes of stack that are enough for any source. A filter of a few levels takes 9 to 16 KiB; only nesting at all limits takes this.
+/// Bytes of stack that are enough for any source. A filter of a few levels takes 9 to 16 KiB, a constant in it 17 KiB more; only nesting at all limits takes this.
 pub const MOST_STACK: usize = 1 << 20;
 
 /// The numbers of a row.
@@ -37,7 +40,7 @@ pub const TEXT: u64 = 47;
 /// Kind of a float's row; `float_of` gives its number.
 pub const FLOAT: u64 = 11;
 
-/// A number from 1 to 14, its place, and what is needed for 10.
+/// A number from 1 to 16, its place, and what is needed for 10.
 #[derive(Clone, Copy, Debug, PartialEq, Eq)]
 pub struct Refusal {
     pub number: u64,
@@ -64,6 +67,8 @@ impl Refusal {
             12 => "size of a row wrong",
             13 => "no leaf there",
             14 => "float with too many digits",
+            15 => "no such constant, or none that can be worked out",
+            16 => "integer divisor zero",
             _ => "unknown number",
         }
     }
@@ -200,3 +205,59 @@ pub fn float_of(source: &[u8], row: &Row) -> Result<Float, Refusal> {
     let text = source.get(start..end).filter(|_| row[0] == FLOAT);
     float(text.unwrap_or(b"")).map_err(|refusal| Refusal { start, end, ..refusal })
 }
+
+/// What a constant comes to: its declared type says which of the three. No integer is below -9223372036854775808 or above
+/// 18446744073709551615.
+#[derive(Clone, Copy, Debug, PartialEq)]
+pub enum Constant {
+    Integer(i128),
+    Float(f64),
+    Bool(bool),
+}
+
+/// Instructions that are enough for any constant, and the numbers of each.
+const MOST_INSTRUCTIONS: usize = 1_024;
+const INSTRUCTION: usize = 5;
+
+/// The value of the `const` declaration with a number, from 0, in the order of the source. Integers wrap at the declared width; `&&` and `||`
+/// evaluate both sides. Besides the source's own refusals: 15 where there is no such constant, where its expression has over 1,024 rows, where
+/// its type is none of the ten, and at the first row with a form that isn't taken, a wrong type or too large a literal; 14 there for a float of
+/// too many digits; 16 at the operator whose integer divisor is zero.
+///
+/// ```
+/// use lekhyundo::{Constant, constant};
+///
+/// let source = b"const LIMIT: u8 = 3 * 8; const SHARE: f64 = 1.0 / 4.0; const OPEN: bool = 24 <= 32; const BAD: i8 = 1 / 0;";
+/// assert_eq!(constant(source, 0), Ok(Constant::Integer(24)));
+/// assert_eq!(constant(source, 1), Ok(Constant::Float(0.25)));
+/// assert_eq!(constant(source, 2), Ok(Constant::Bool(true)));
+/// let refusal = constant(source, 3).unwrap_err();
+/// assert_eq!((refusal.number, &source[refusal.start..refusal.end]), (16, &b"1 / 0"[..]));
+/// assert_eq!(constant(source, 4).unwrap_err().number, 15);
+/// ```
+pub fn constant(source: &[u8], n: u64) -> Result<Constant, Refusal> {
+    // No source has more than three rows to two bytes, and one.
+    let mut table = vec![0; (source.len() * 3 / 2 + 1).min(MOST_ROWS) * WIDTH];
+    let mut list = vec![0; MOST_INSTRUCTIONS * INSTRUCTION];
+    let mut answer = [0; 6];
+    // SAFETY: as above.
+    unsafe {
+        c::lekhyundo_constant(
+            source.as_ptr(), source.len(), n, table.as_mut_ptr(), table.len(), list.as_mut_ptr(), list.len(), answer.as_mut_ptr(), 6,
+        )
+    };
+    let [number, start, end, count, kind, bits] = answer;
+    taken([number, start, end, count])?;
+    Ok(match kind {
+        SIGNED_FIRST..=SIGNED_LAST => Constant::Integer((bits as i64).into()),
+        F64 => Constant::Float(f64::from_bits(bits)),
+        BOOL => Constant::Bool(bits == 1),
+        _ => Constant::Integer(bits.into()),
+    })
+}
+
+/// The declared types by their numbers in an answer: i8 to i64, then u8 to u64 between, f64 and bool.
+const SIGNED_FIRST: u64 = 1;
+const SIGNED_LAST: u64 = 4;
+const F64: u64 = 10;
+const BOOL: u64 = 12;

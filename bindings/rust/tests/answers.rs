@@ -1,4 +1,6 @@
-use lekhyundo::{F_STRING, FLOAT, Float, Reader, Refusal, SIZE, TEXT, Token, WIDTH, at, decode, float, float_of, name, subtree, tokens};
+use lekhyundo::{
+    Constant, F_STRING, FLOAT, Float, Reader, Refusal, SIZE, TEXT, Token, WIDTH, at, constant, decode, float, float_of, name, subtree, tokens,
+};
 
 fn refusal(number: u64, start: usize, end: usize) -> Refusal {
     Refusal { number, start, end, needed: 0 }
@@ -150,4 +152,45 @@ fn the_leaf_under_a_byte() {
     assert_eq!(at(&rows, 14), Err(refusal(12, 0, 0)));
     // The tree's row is skipped whole, with what stands under it.
     assert_eq!(at(&rows, 16), Err(refusal(13, 0, 0)));
+}
+
+#[test]
+fn a_constant_has_its_value() {
+    for (source, value) in [
+        ("const A: i8 = -127 - 1;", Constant::Integer(-128)),
+        ("const A: i8 = (-127 - 1) / -1;", Constant::Integer(-128)),
+        ("const A: i64 = -9223372036854775807 - 1;", Constant::Integer(i64::MIN.into())),
+        ("const A: u64 = 18446744073709551615u64;", Constant::Integer(u64::MAX.into())),
+        ("const A: u64 = 0 - 1;", Constant::Integer(u64::MAX.into())),
+        ("const A: u8 = 255 + 1;", Constant::Integer(0)),
+        ("const A: f64 = -5.5 % 2.0;", Constant::Float(-1.5)),
+        ("const A: f64 = 1.0 / 0.0;", Constant::Float(f64::INFINITY)),
+        ("const A: bool = true && !false;", Constant::Bool(true)),
+        ("const A: bool = -1 > 0;", Constant::Bool(false)),
+    ] {
+        assert_eq!(constant(source.as_bytes(), 0), Ok(value), "{source}");
+    }
+    let Ok(Constant::Float(nan)) = constant(b"const A: f64 = 0.0 / 0.0;", 0) else { panic!("a float") };
+    assert!(nan.is_nan());
+    assert_eq!(constant(b"const A: u8 = 1; fn f() {} const B: u8 = 2;", 1), Ok(Constant::Integer(2)));
+}
+
+#[test]
+fn a_constant_is_refused_where_the_reason_stands() {
+    for (source, number, start, end) in [
+        ("", 15, 0, 0),
+        ("const A: u8 = 1 2;", 6, 16, 17),
+        ("const A: f32 = 1;", 15, 9, 12),
+        ("const A: u8 = a;", 15, 14, 15),
+        ("const A: i8 = -128;", 15, 15, 18),
+        ("const A: bool = 1i64 == 1;", 15, 16, 20),
+        ("const A: u8 = 12345678901234567890.0;", 14, 14, 36),
+        ("const A: bool = true || 1 / 0 == 1;", 16, 24, 29),
+    ] {
+        assert_eq!(constant(source.as_bytes(), 0), Err(refusal(number, start, end)), "{source}");
+    }
+    let [longest, longer] = [511, 512].map(|more| format!("const A: u16 = 1{};", "+1".repeat(more)));
+    assert_eq!(constant(longest.as_bytes(), 0), Ok(Constant::Integer(512)));
+    assert_eq!(constant(longer.as_bytes(), 0), Err(refusal(15, 15, longer.len() - 1)));
+    assert_eq!(constant(b"const A: u8 = 1;", u64::MAX), Err(refusal(15, 0, 0)));
 }

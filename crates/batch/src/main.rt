@@ -1,8 +1,10 @@
-// Answers cases from standard input, one after the other: a line `ENTRY LENGTH` or `ENTRY LENGTH ROOM`, for `n` `n LENGTH POSITION`, then LENGTH bytes.
+// Answers cases from standard input, one after the other: a line `ENTRY LENGTH` or `ENTRY LENGTH ROOM`, for `n` `n LENGTH POSITION`, for `k`
+// `k LENGTH NUMBER [LIST [ROWS]]`, then LENGTH bytes.
 ghost use mathlib.Core.Path.{_≡_};
 ghost use lib.ListN.{length};
 ghost use Prim.Native.Nat.{_*_};
 ghost use Rattle.rows.specs.Rows.{width};
+use decimals::Numeral;
 use libc::STDIN_FILENO;
 use libc::STDOUT_FILENO;
 
@@ -15,13 +17,15 @@ const ENOUGH: u64 = 1000000;
 // More rows than any case asks room for.
 const MOST_ROWS: usize = 10240;
 
-// The room or the position, and enough where the line ends without one.
-fn room_behind(behind: u8) -> u64 {
+// The next number of a case's line, and enough where the line has ended.
+fn number_behind(behind: u8) -> Numeral {
     if behind == b'\n' {
-        return ENOUGH;
+        return Numeral {
+            value: ENOUGH,
+            behind,
+        };
     }
-    let room = decimals::figure();
-    room.value
+    decimals::figure()
 }
 
 // (a) in a table with so many rows, and with some numbers behind them that are no row.
@@ -56,17 +60,68 @@ fn node(text: &[u8], position: u64, table: &mut [u64]) {
     }
 }
 
+// A constant, in a table with so many rows, and with some numbers behind them that are no row.
+fn constant(source: &[u8], number: u64, room: usize, table: &mut [u64], list: &mut [u64]) {
+    if room < table.len() / rows::WIDTH {
+        print::constant::answer(
+            source,
+            number,
+            &mut table[..room * rows::WIDTH + source.len() % rows::WIDTH],
+            list,
+        );
+    } else {
+        print::constant::answer(source, number, table, list);
+    }
+}
+
+// The same with a list of so many instructions.
+fn listed(source: &[u8], line: Line, table: &mut [u64]) {
+    let mut list = instructions();
+    let room = line.list as usize;
+    if room < machine::MOST {
+        constant(
+            source,
+            line.first,
+            line.rows as usize,
+            table,
+            &mut list[..room * machine::WIDTH + source.len() % machine::WIDTH],
+        );
+    } else {
+        constant(source, line.first, line.rows as usize, table, &mut list);
+    }
+}
+
+// The numbers behind a case's length: the room, the position or the constant's number; the rooms of its list and its rows.
+struct Line {
+    first: u64,
+    list: u64,
+    rows: u64,
+}
+
 // Entries: `a` source to tree, `b` to one expression, `c` to token list, `e` a string token decoded, `f` the number of a float,
-// `n` the leaf that holds a byte.
-fn answer(entry: u8, source: &[u8], room: u64, table: &mut [u64]) {
+// `k` a constant, `n` the leaf that holds a byte.
+fn answer(entry: u8, source: &[u8], line: Line, table: &mut [u64]) {
+    let room = line.first as usize;
     match entry {
-        b'a' => tree(source, room as usize, table),
-        b'b' => expression(source, room as usize, table),
-        b'c' => print::answer_tokens(source, room as usize),
-        b'e' => print::answer_decode(source, room as usize),
+        b'a' => tree(source, room, table),
+        b'b' => expression(source, room, table),
+        b'c' => print::answer_tokens(source, room),
+        b'e' => print::answer_decode(source, room),
         b'f' => print::answer_float(source),
-        b'n' => node(source, room, table),
+        b'k' => listed(source, line, table),
+        b'n' => node(source, line.first, table),
         _ => {}
+    }
+}
+
+fn rest_of_line(behind: u8) -> Line {
+    let first = number_behind(behind);
+    let list = number_behind(first.behind);
+    let rows = number_behind(list.behind);
+    Line {
+        first: first.value,
+        list: list.value,
+        rows: rows.value,
     }
 }
 
@@ -79,7 +134,7 @@ fn case(buffer: &mut [u8], table: &mut [u64]) -> bool {
     decimals::next_byte();
     let first = decimals::figure();
     let length = first.value as usize;
-    let room = room_behind(first.behind);
+    let line = rest_of_line(first.behind);
     if buffer.len() < length {
         return false;
     }
@@ -87,7 +142,7 @@ fn case(buffer: &mut [u8], table: &mut [u64]) -> bool {
     if count < length {
         return false;
     }
-    answer(entry, &buffer[..length], room, table);
+    answer(entry, &buffer[..length], line, table);
     io::write_all(STDOUT_FILENO, b"\n");
     true
 }
@@ -108,6 +163,13 @@ fn case_table() -> [u64; MOST_ROWS * rows::WIDTH]
     ensures { λ r. ⌜ 10240 * width ≡ length r ⌝ }
 {
     [0; MOST_ROWS * rows::WIDTH]
+}
+
+// Zeros for a constant's instructions.
+fn instructions() -> [u64; machine::MOST * machine::WIDTH]
+    ensures { λ r. ⌜ 5120 ≡ length r ⌝ }
+{
+    [0; machine::MOST * machine::WIDTH]
 }
 
 fn main() {

@@ -1,18 +1,22 @@
--- Two answers that the C functions of (a) and (b) permit coincide, and so do the tables; and so do two answers to a float, and to a position.
+-- Two answers that the C functions of (a) and (b) permit coincide, and so do the tables; and so do two answers to a float, to a position, and to a constant.
 use mathlib.Core.Path.{_≡_, sym, ap, _∙_}
 use mathlib.Core.List.{List}
 use mathlib.Core.Bool.{Bool, true}
 use Prim.Native.Nat.{ℕ}
+use lib.ListN.{length}
 use lib.Seq.{sets}
 use Rattle.chars.specs.declared.Answer.{Answer}
 use Rattle.answers.proofs.Determined.{one-permitted}
 use Rattle.literals.specs.declared.Answer as literals
 use Rattle.literals.proofs.Answered.{one-answer}
 use Rattle.nodes.proofs.Search as nodes
-use Rattle.lekhyundo.specs.Numbers.{answerNumbers, floatNumbers}
+use Rattle.constants.specs.declared.Constant.{Constant}
+use Rattle.constants.proofs.Answered as constants
+use Rattle.lekhyundo.specs.Numbers.{answerNumbers, floatNumbers, constantNumbers}
 use Rattle.lekhyundo.specs.Entered.{Entered}
 use Rattle.lekhyundo.specs.Floated.{Floated}
 use Rattle.lekhyundo.specs.Searched.{Searched}
+use Rattle.lekhyundo.specs.Evaluated.{Evaluated}
 
 pub one-entered : (tree : Bool) (s : List ℕ) (size : ℕ) {t u run x y : List ℕ} → Entered tree s size t run x → Entered tree s size u run y → (t ≡ u) × (x ≡ y)
 one-entered tree s size {run = run} a b =
@@ -24,3 +28,8 @@ one-floated text {run} a b = a .numbers ∙ ap (λ (q : literals.Answer). sets r
 
 pub one-searched : (table : List ℕ) (position : ℕ) {run x y : List ℕ} → Searched table position run x → Searched table position run y → x ≡ y
 one-searched table position {run} a b = a .numbers ∙ ap (λ (q : Answer). sets run 0 (answerNumbers q)) (nodes.one-answer table position (a .permitted) (b .permitted)) ∙ sym (b .numbers)
+
+pub one-evaluated : (s : List ℕ) (k size room : ℕ) {t u l m run x y : List ℕ} → Evaluated s k size room t l run x → Evaluated s k size room u m run y → (t ≡ u) × (l ≡ m) × (x ≡ y)
+one-evaluated s k size room {run = run} a b =
+    let o = constants.one-answer true s k size room (a .permitted) (b .permitted) in
+    (o .1, o .2, a .numbers ∙ ap (λ (c : Constant). sets run 0 (constantNumbers (length s) c)) (o .0) ∙ sym (b .numbers))

@@ -2,3 +2,4 @@ pub mod Numbers
 pub mod Entered
 pub mod Floated
 pub mod Searched
+pub mod Evaluated

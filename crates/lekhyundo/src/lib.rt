@@ -14,6 +14,7 @@ ghost use Rattle.lekhyundo.specs.Numbers.{answerNumbers};
 ghost use Rattle.lekhyundo.specs.Entered.{Entered};
 ghost use Rattle.lekhyundo.specs.Floated.{Floated};
 ghost use Rattle.lekhyundo.specs.Searched.{Searched};
+ghost use Rattle.lekhyundo.specs.Evaluated.{Evaluated};
 use chars::Answer;
 use reader::entries;
 use tokens::Cursor;
@@ -169,4 +170,21 @@ pub extern "C" fn lekhyundo_node(table: &[u64], position: u64, answer: &mut [u64
 {
     let a = nodes::node_at(table, position);
     put_answer(answer, a);
+}
+
+// C-18: the value of the constant with a number, from 0, its rows and its instructions in lent tables; number, start, end, count, type, bits.
+#[no_mangle]
+pub extern "C" fn lekhyundo_constant(
+    s: &[u8],
+    number: u64,
+    table: &mut [u64],
+    list: &mut [u64],
+    answer: &mut [u64],
+)
+    ensures { λ r. ⌜ Evaluated (now (s .entry)) number (length (now (table .entry))) (length (now (list .entry))) (now (table .exit)) (now (list .exit)) (now (answer .entry)) (now (answer .exit)) ⌝ }
+{
+    let c = constants::evaluate(s, number, table, list);
+    put_answer(answer, constants::answer(c, s.len()));
+    put(answer, 4, constants::declared_type(c));
+    put(answer, 5, constants::bits(c));
 }

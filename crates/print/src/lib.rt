@@ -9,6 +9,8 @@ use reader::entries;
 use tokens::Cursor;
 use tokens::Step;
 
+pub mod constant;
+
 fn number(n: u64) {
     io::write_all(STDOUT_FILENO, b" ");
     io::print_decimal(STDOUT_FILENO, n);

@@ -2,6 +2,7 @@
 
 mod causes;
 mod culprits;
+mod constants;
 mod grammar;
 mod lexing;
 mod random;
@@ -29,8 +30,11 @@ Modes:
   valid COUNT SEED               texts of the grammar, f-strings among them, some at its limits (entries a and b)
   damaged COUNT SEED             such texts, damaged
   values COUNT SEED              single literals, good and bad (entry b; strings by e too)
+  constants COUNT SEED           constants, typed and mistyped (entry k, as the two below)
+  pairs                          pairs of edge values of each type under each operator: of 8 bits all, 25 to 106 of each wider type
+  shapes                         chains, brackets and runs of signs of about 1,024 rows
 Options:
-  -e ENTRY        a, b, c, e or f (else c for exhaustive and random, b for tokens, a and b by turns for the others)
+  -e ENTRY        a, b, c, e, f or k (else c for exhaustive and random, b for tokens, a and b by turns for the others)
   --list TOKENS   tokens for `tokens` instead of its own, a space between; \\x20 and the like stand for bytes
   --between TEXT  put between the tokens of a text instead of a space
   --before TEXT   put before each text of `tokens`
@@ -139,6 +143,9 @@ fn generate(all: &Arguments, sink: &mut Sink) {
         ["random", count, seed] => lexing::random(sink, entry.unwrap_or(b'c'), number(count), number(seed)),
         ["valid", count, seed] => grammar::random(sink, entry, number(count), number(seed), false),
         ["damaged", count, seed] => grammar::random(sink, entry, number(count), number(seed), true),
+        ["constants", count, seed] => constants::random(sink, number(count), number(seed)),
+        ["pairs"] => constants::pairs(sink),
+        ["shapes"] => constants::shapes(sink),
         ["values", count, seed] => values::random(sink, entry, number(count), number(seed)),
         _ => usage(),
     }

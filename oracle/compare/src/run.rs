@@ -24,7 +24,8 @@ struct Batch {
 
 struct Sent {
     entry: u8,
-    room: Option<u64>,
+    /// The room or the position; for k the constant's number, perhaps the rooms of list and rows.
+    numbers: Vec<u64>,
     source: std::ops::Range<usize>,
 }
 
@@ -49,18 +50,33 @@ pub struct Sink {
     wanted: bool,
 }
 
+impl Sent {
+    /// Of what is answered; for k that of the list.
+    fn room(&self) -> Option<u64> {
+        self.numbers.get(usize::from(self.entry == b'k')).copied()
+    }
+}
+
 impl Sink {
+    /// Of a source made for another entry, k takes the first constant.
     pub fn case(&mut self, entry: u8, source: &[u8], room: Option<u64>) {
-        let input = &mut self.batch.input;
         match room {
-            Some(room) => writeln!(input, "{} {} {room}", entry as char, source.len()),
-            None => writeln!(input, "{} {}", entry as char, source.len()),
+            None if entry == b'k' => self.numbered(entry, source, &[0]),
+            _ => self.numbered(entry, source, room.as_slice()),
         }
-        .expect("writing to memory");
+    }
+
+    pub fn numbered(&mut self, entry: u8, source: &[u8], numbers: &[u64]) {
+        let input = &mut self.batch.input;
+        write!(input, "{} {}", entry as char, source.len()).expect("writing to memory");
+        for number in numbers {
+            write!(input, " {number}").expect("writing to memory");
+        }
+        input.push(b'\n');
         let start = input.len();
         input.extend_from_slice(source);
         let source = start..input.len();
-        self.batch.cases.push(Sent { entry, room, source });
+        self.batch.cases.push(Sent { entry, numbers: numbers.to_vec(), source });
         if self.batch.input.len() >= BATCH_BYTES {
             self.send();
         }
@@ -90,6 +106,8 @@ pub struct Report {
     exact_room: u64,
     one_short: u64,
     recounted: u64,
+    /// The kinds of value that constants have.
+    values: BTreeMap<String, u64>,
     classes: BTreeMap<String, (u64, String)>,
 }
 
@@ -244,7 +262,12 @@ impl Report {
         let said: Vec<u64> = numbers(first).collect();
         if first.starts_with(b"accepted") {
             self.accepted += 1;
-            self.exact_room += u64::from(case.room == said.first().copied());
+            if case.entry == b'k' {
+                let word = first.split(|byte| *byte == b' ').nth(1).unwrap_or(b"");
+                *self.values.entry(String::from_utf8_lossy(word).into_owned()).or_default() += 1;
+                return;
+            }
+            self.exact_room += u64::from(case.room() == said.first().copied());
             if case.entry != b'e' {
                 for line in lines {
                     if let Some(number) = numbers(line).next() {
@@ -255,7 +278,7 @@ impl Report {
         } else if let Some(number) = said.first() {
             *self.refused.entry(*number).or_default() += 1;
             if *number == 10 {
-                self.one_short += u64::from(case.room.map(|room| room + 1) == said.last().copied());
+                self.one_short += u64::from(case.room().map(|room| room + 1) == said.last().copied());
             }
         }
     }
@@ -277,6 +300,9 @@ impl Report {
         println!("{} cases: {} accepted", self.cases, self.accepted);
         for (number, count) in &self.refused {
             println!("  refused {number}: {count}");
+        }
+        for (word, count) in &self.values {
+            println!("  accepted {word}: {count}");
         }
         let seen: Vec<_> = self.first_numbers.iter().map(|(n, count)| format!("{n}: {count}")).collect();
         println!("  codes or kinds in accepted answers: {}", seen.join(", "));
@@ -317,7 +343,7 @@ fn spoil(answer: &mut [u8]) {
 }
 
 fn show(case: &Sent, source: &[u8]) -> String {
-    let room = case.room.map_or(String::new(), |room| format!(" room {room}"));
+    let room = if case.numbers.is_empty() { String::new() } else { format!(" with {:?}", case.numbers) };
     let (cut, more) = if source.len() > 300 { (300, "..") } else { (source.len(), "") };
     let text = source[..cut].escape_ascii();
     format!("{} of {} bytes{room} `{text}{more}`", case.entry as char, source.len())

@@ -1,8 +1,13 @@
 //! Answers of the entry points from the Rust's lexer and parser, for both programs.
 
+mod constants;
+
 use std::panic::{AssertUnwindSafe, catch_unwind};
 
-use protocol::{Case, Found, Refusal, Row, serve, time, write_bytes, write_float, write_refusal, write_rows};
+use protocol::{
+    Case, Constant, Found, NotThere, Refusal, Row, serve, time, write_bytes, write_constant, write_float, write_refusal,
+    write_rows,
+};
 
 use crate::{
     ast::{Expr, FloatType, Literal},
@@ -59,6 +64,7 @@ fn answer(whole: WholeSource, case: &Case<'_>, out: &mut String) {
     let done = catch_unwind(AssertUnwindSafe(|| match case.entry {
         b'e' => write_bytes(out, decoded(whole, case.source).as_deref().map_err(|r| *r), case.room),
         b'f' => write_float(out, float(whole, case.source)),
+        b'k' => write_constant(out, constant(whole, case)),
         b'c' => write_rows(out, &found(whole(case.source), tokens), case.room),
         b'b' => write_rows(out, &found(whole(case.source), expression), case.room),
         _ => write_rows(out, &found(whole(case.source), tree), case.room),
@@ -150,6 +156,17 @@ fn float(whole: WholeSource, literal: &[u8]) -> Result<(u64, u64), Refusal> {
         Some(FloatType::F32) if crate::NARROWS => Ok((32, decimal.parse::<f32>().map_err(|_| refused)?.to_bits().into())),
         _ => Ok((64, value.to_bits())),
     }
+}
+
+/// C-18: a constant's value, after "document 01's" refusals "for the source", 10 for its rows among them.
+fn constant(whole: WholeSource, case: &Case<'_>) -> Result<Constant, NotThere> {
+    let source = whole(case.source)?;
+    let rows = tree(source)?;
+    if rows.len() as u64 > case.rows {
+        return Err(NotThere::NoRoom(rows.len() as u64));
+    }
+    let float_of = |text: &str| float(whole, text.as_bytes());
+    constants::constant(&rows, source, case.room, case.list, &float_of)
 }
 
 fn parsed(source: &str) -> Result<(Meta<Expr>, Spans), Refusal> {

@@ -1,9 +1,11 @@
 //! Our own code behind the protocol: the compiled Rattle library, called as C calls it.
 
 use protocol::{
-    Case, Refusal, WIDTH, serve, time, write_bytes, write_float, write_no_room, write_refusal, write_row,
+    Case, Constant, NotThere, Refusal, WIDTH, serve, time, write_bytes, write_constant, write_float, write_no_room, write_refusal,
+    write_row,
 };
 
+mod list;
 mod word;
 
 #[repr(C)]
@@ -43,6 +45,11 @@ unsafe extern "C" {
     fn lekhyundo_float(source: *const u8, length: usize, answer: *mut u64, answer_length: usize);
     /// C-15; answer: number, start, end, index.
     fn lekhyundo_node(table: *const u64, table_length: usize, position: u64, answer: *mut u64, answer_length: usize);
+    /// C-18; answer: number, start, end, count, type, bits.
+    fn lekhyundo_constant(
+        source: *const u8, length: usize, number: u64, table: *mut u64, table_length: usize, list: *mut u64, list_length: usize,
+        answer: *mut u64, answer_length: usize,
+    );
 }
 
 fn tokens(source: &[u8], list: &mut [Token]) -> [u64; 4] {
@@ -205,6 +212,64 @@ fn node(case: &Case<'_>, out: &mut String) {
     }
 }
 
+/// C-18: a constant's value, into a table and a list that are not zeros before. Accepted: the table is the tree's, the list what the rows give, then
+/// zeros; refused: zeros in both.
+fn constant(case: &Case<'_>, out: &mut String) {
+    // No constant has more instructions than rows, nor more than 1,024.
+    let room = case.rows.min(case.source.len() as u64 * 3 / 2 + 2) as usize;
+    let mut table = vec![0xa5u64; room * WIDTH + case.source.len() % WIDTH];
+    let mut list = vec![0xa5u64; case.list.min(1_030) as usize * 5 + case.source.len() % 5];
+    let mut answer = [u64::MAX; 7];
+    // SAFETY: as above.
+    unsafe {
+        lekhyundo_constant(
+            case.source.as_ptr(), case.source.len(), case.room, table.as_mut_ptr(), table.len(), list.as_mut_ptr(), list.len(),
+            answer.as_mut_ptr(), 6,
+        )
+    };
+    let [number, start, end, count, kind, bits, behind] = answer;
+    write_constant(out, match number {
+        0 => Ok(valued(kind, bits)),
+        10 => Err(NotThere::NoRoom(count)),
+        _ => Err(NotThere::Refused(Refusal { number, start, end })),
+    });
+    let place_fits = match number {
+        0 => (start, end) == (0, case.source.len() as u64),
+        10 => (start, end, kind, bits) == (0, 0, 0, 0),
+        _ => (count, kind, bits) == (0, 0, 0),
+    };
+    let (mut rows, mut instructions) = (vec![0; table.len()], vec![0; list.len()]);
+    if number == 0 {
+        read(lekhyundo_tree, case.source, &mut rows);
+        let float = |start, end| float_bits(&case.source[start as usize..end as usize]);
+        let expected = list::expected(&rows, case.room, kind, &float);
+        instructions[..expected.len()].copy_from_slice(&expected);
+        if expected.len() as u64 != count * 5 {
+            out.push_str(&format!("{count} instructions, not {}\n", expected.len() / 5));
+        }
+    }
+    if !place_fits || behind != u64::MAX || table != rows || list != instructions {
+        out.push_str(&format!("number {number} has place {start} {end}, count {count}; or what is left in a table is something else\n"));
+    }
+}
+
+/// The value of a type by the 64 bits of the answer.
+fn valued(kind: u64, bits: u64) -> Constant {
+    match kind {
+        1..=4 => Constant::Integer((bits as i64).into()),
+        5..=8 => Constant::Integer(bits.into()),
+        10 => Constant::Float(f64::from_bits(bits)),
+        _ => Constant::Bool(bits == 1),
+    }
+}
+
+fn float_bits(literal: &[u8]) -> u64 {
+    let mut answer = [u64::MAX; 5];
+    // SAFETY: as above.
+    unsafe { lekhyundo_float(literal.as_ptr(), literal.len(), answer.as_mut_ptr(), answer.len()) };
+    answer[4]
+}
+
 /// Into a list of exactly the tokens that there are.
 fn time_tokens(arguments: &[String]) -> std::io::Result<()> {
     let list = std::cell::RefCell::new(Vec::new());
@@ -242,6 +307,7 @@ fn main() -> std::io::Result<()> {
             b'a' | b'b' => rows(case, out),
             b'c' => token_list(case, out),
             b'f' => float(case, out),
+            b'k' => constant(case, out),
             b'n' => node(case, out),
             _ => decode(case, out),
         }),

@@ -1,8 +1,8 @@
 //! The one protocol that the oracle, the full commit and our own code speak.
 //!
 //! Cases follow one another on standard input: a line `ENTRY LENGTH` or `ENTRY LENGTH ROOM`, then LENGTH bytes at
-//! once, then the next line. ENTRY is `a`, `b`, `c`, `e`, `f` or `n`; ROOM counts rows, tokens or bytes, enough if left out, and is
-//! the position for `n`.
+//! once, then the next line. ENTRY is `a`, `b`, `c`, `e`, `f`, `k` or `n`; ROOM counts rows, tokens or bytes, enough if left out, is
+//! the position for `n`, and for `k` it is the constant's number, behind which the rooms of its list and of the rows may stand.
 //! Each answer ends in an empty line. See ../README.md.
 
 use std::{
@@ -38,7 +38,32 @@ pub enum Found<const N: usize> {
 pub struct Case<'a> {
     pub entry: u8,
     pub source: &'a [u8],
+    /// For `n` the position, for `k` the constant's number.
     pub room: u64,
+    /// For `k` the room for instructions and for rows.
+    pub list: u64,
+    pub rows: u64,
+}
+
+/// "A finished constant holds either a whole number, a float or a truth value" (C-18).
+#[derive(Clone, Copy, Debug)]
+pub enum Constant {
+    Integer(i128),
+    Float(f64),
+    Bool(bool),
+}
+
+/// Why there is none: a refusal, or 10 with the rows or instructions needed.
+#[derive(Clone, Copy, Debug)]
+pub enum NotThere {
+    Refused(Refusal),
+    NoRoom(u64),
+}
+
+impl From<Refusal> for NotThere {
+    fn from(refusal: Refusal) -> Self {
+        NotThere::Refused(refusal)
+    }
 }
 
 /// `accepted COUNT` and a line for each row, or `refused ..`; 10 exactly when nothing else refuses and the count
@@ -91,6 +116,18 @@ pub fn write_float(out: &mut String, found: Result<(u64, u64), Refusal>) {
     }
 }
 
+/// `accepted integer N`, `accepted float BITS`, or `nan` for a NaN, `accepted bool 0|1`.
+pub fn write_constant(out: &mut String, found: Result<Constant, NotThere>) {
+    match found {
+        Err(NotThere::Refused(r)) => write_refusal(out, r),
+        Err(NotThere::NoRoom(count)) => write_no_room(out, count),
+        Ok(Constant::Integer(n)) => writeln!(out, "accepted integer {n}").unwrap(),
+        Ok(Constant::Float(x)) if x.is_nan() => out.push_str("accepted float nan\n"),
+        Ok(Constant::Float(x)) => writeln!(out, "accepted float {}", x.to_bits()).unwrap(),
+        Ok(Constant::Bool(b)) => writeln!(out, "accepted bool {}", u8::from(b)).unwrap(),
+    }
+}
+
 pub fn write_refusal(out: &mut String, r: Refusal) {
     writeln!(out, "refused {} {} {}", r.number, r.start, r.end).unwrap();
 }
@@ -113,14 +150,14 @@ pub fn serve(mut answer: impl FnMut(&Case<'_>, &mut String)) -> io::Result<()> {
         if input.read_until(b'\n', &mut header)? == 0 {
             return output.flush();
         }
-        let (entry, length, room) = parse_header(&header)
+        let (entry, length, [room, list, rows]) = parse_header(&header)
             .ok_or_else(|| io::Error::other(format!("not a case: {}", String::from_utf8_lossy(&header))))?;
         source.clear();
         if (&mut input).take(length).read_to_end(&mut source)? as u64 != length {
             return Err(io::Error::other("the last case is cut short"));
         }
         text.clear();
-        answer(&Case { entry, source: &source, room }, &mut text);
+        answer(&Case { entry, source: &source, room, list, rows }, &mut text);
         text.push('\n');
         output.write_all(text.as_bytes())?;
     }
@@ -148,7 +185,7 @@ pub fn time(
     Ok(())
 }
 
-fn parse_header(line: &[u8]) -> Option<(u8, u64, u64)> {
+fn parse_header(line: &[u8]) -> Option<(u8, u64, [u64; 3])> {
     let line = std::str::from_utf8(line.strip_suffix(b"\n")?).ok()?;
     let mut parts = line.split(' ');
     let entry = match parts.next()? {
@@ -157,10 +194,15 @@ fn parse_header(line: &[u8]) -> Option<(u8, u64, u64)> {
         "c" => b'c',
         "e" => b'e',
         "f" => b'f',
+        "k" => b'k',
         "n" => b'n',
         _ => return None,
     };
     let length = parts.next()?.parse().ok()?;
-    let room = parts.next().map_or(Some(u64::MAX), |room| room.parse().ok())?;
-    parts.next().is_none().then_some((entry, length, room))
+    let most = if entry == b'k' { 3 } else { 1 };
+    let mut numbers = [u64::MAX; 3];
+    for number in &mut numbers[..most] {
+        *number = parts.next().map_or(Some(u64::MAX), |text| text.parse().ok())?;
+    }
+    parts.next().is_none().then_some((entry, length, numbers))
 }

@@ -18,8 +18,8 @@ next-byte-requires-2 c κs = search needs
 figure-requires : tie.Need-figure-requires
 figure-requires c κs = search needs
 
-room-behind-requires : tie.Need-room-behind-requires
-room-behind-requires c κs = search needs
+rest-of-line-requires : tie.Need-rest-of-line-requires
+rest-of-line-requires c κs = search needs
 
 returns-2 : tie.Need-returns-2
 returns-2 c = search needs
@@ -71,7 +71,7 @@ case-spec =
     returns
     next-byte-requires-2
     figure-requires
-    room-behind-requires
+    rest-of-line-requires
     returns-2
     slice-relend-prefix-read-full
     slice-aggregate-read-full

@@ -2,12 +2,12 @@
 //! one level deeper that documents 01 and 02 limit, and for the deepest source that the limits leave. Frames add up, so that
 //! source takes the dearest way at each level.
 
-use std::arch::asm;
+#[path = "../painted.rs"]
+mod painted;
 
+use painted::Painted;
 use protocol::WIDTH;
 
-const SIZE: usize = 16 << 20;
-const PAINT: u8 = 0xa5;
 const MOST_ROWS: usize = 98_304;
 const LIMIT: usize = 32;
 
@@ -42,27 +42,17 @@ unsafe extern "C" fn read(call: *mut Call<'_>) {
 }
 
 struct Measure {
-    stack: Vec<u8>,
+    stack: Painted,
     table: Vec<u64>,
 }
 
 impl Measure {
     /// The bytes of stack that reading a source overwrites. The source stops where it is deepest: 11.
     fn taken(&mut self, entry: Entry, source: &str) -> usize {
-        self.stack.fill(PAINT);
-        let top = self.stack.as_mut_ptr_range().end as usize & !15;
         let mut call = Call { entry, source: source.as_bytes(), table: &mut self.table, answer: [0; 4] };
-        // SAFETY: the stack is ours while `read` runs on it, and r12 keeps the one before, as C's rules for calls say.
-        unsafe {
-            asm!(
-                "xchg rsp, r12", "call {read}", "mov rsp, r12",
-                read = sym read, in("rdi") &mut call, inout("r12") top => _, clobber_abi("C")
-            );
-        }
+        let taken = self.stack.taken(read, &mut call);
         assert_eq!(call.answer[0], 11, "{source}");
-        let untouched = self.stack.iter().take_while(|byte| **byte == PAINT).count();
-        assert!(untouched > 0, "{SIZE} bytes are too few");
-        self.stack.len() - untouched
+        taken
     }
 
     /// What one level more takes, of those that a text opens.
@@ -96,7 +86,7 @@ fn chain(links: usize) -> String {
 }
 
 fn main() {
-    let mut measure = Measure { stack: vec![PAINT; SIZE], table: vec![0; MOST_ROWS * WIDTH] };
+    let mut measure = Measure { stack: Painted::new(), table: vec![0; MOST_ROWS * WIDTH] };
     let owned = |texts: &[&str]| texts.iter().map(|text| text.to_string()).collect::<Vec<_>>();
     println!("{:8} bytes: the empty source", measure.taken(lekhyundo_expression, ""));
 

@@ -1,0 +1,12 @@
+pub mod Told
+pub mod Compiled
+pub mod Writing
+pub mod Finished
+pub mod Forests
+pub mod Faultless
+pub mod Whole
+pub mod Search
+pub mod Accepted
+pub mod Answered
+pub mod Typed
+pub mod Worked
