@@ -4,8 +4,8 @@
  * not be null or unaligned, also for 0 elements, and nothing is kept of it. No function allocates, fails or asks anything of the bytes.
  * What each says is proved.
  *
- * (a) and (b) call themselves as deep as a source nests: 9 to 16 KiB of stack for filters of a few levels, 952 KiB for one that nests at all limits
- * at once (docs/ARCHITECTURE.md, "Stack"); lekhyundo_constant takes 17 KiB more than (a) on the same source. A thread with 1 MiB of stack can read what strangers wrote.
+ * (a) and (b) call themselves as deep as a source nests: 11 to 16 KiB of stack for filters of a few levels, 1,016 KiB for one that nests at all limits
+ * at once (docs/ARCHITECTURE.md, "Stack"); lekhyundo_constant takes 17 KiB more than (a) on the same source. A thread with 1,088 KiB of stack can read what strangers wrote.
  *
  * An answer is four numbers: the number of docs (README.md), where its place starts and ends, and a count: the rows or
  * bytes for 0, those needed for 10, else 0. If fewer than four are lent, only those are written.
@@ -108,6 +108,23 @@ enum lekhyundo_instruction {
  * A C program names -lm: `%` of f64 is fmod. */
 void lekhyundo_constant(const uint8_t *source, size_t source_length, uint64_t number, uint64_t *table, size_t table_length,
                         uint64_t *list, size_t list_length, uint64_t *answer, size_t answer_length);
+
+/* A table from another tool: a file of three sections, each after its count as a 32-bit little-endian number: the source's bytes; rows, of
+ * LEKHYUNDO_WIDTH 64-bit little-endian numbers each; the rows of the declarations by index from 0, 32-bit likewise. Accepted exactly when the rows are
+ * those of (a) for that source and the indexes name its declarations in order. Five numbers: 0, 0, the file's length, how many rows, and how many of them
+ * are tests (kind 42). Or a refusal: 17 at 0, 0 where the sections don't fill the file exactly; before that of (a) to the source, its place in the source;
+ * before 18 at the number of the first row that differs, is missing or is too many, + 1; before 19 at the first such index, + 1.
+ * The file's rows are compared in the lent table as the source is read: it has room for (table_length - 1) / LEKHYUNDO_WIDTH rows, and 10 says how many are
+ * needed, as for (a); 98,304 rows and one number more serve any file. Accepted: the rows stand first in the table and zeros fill the rest. Refused: zeros
+ * throughout. */
+void lekhyundo_table_check(const uint8_t *file, size_t file_length, uint64_t *table, size_t table_length,
+                           uint64_t *answer, size_t answer_length);
+
+/* The file of a source, which the check accepts. The source is read by (a) into the lent table; its refusals come first, 10 with the rows needed among them, then 10 with
+ * the bytes needed. Accepted: the count is the file's bytes, they stand first in the lent bytes, and zeros fill the rest; the table is as (a) leaves it.
+ * Refused: zeros throughout, in both. */
+void lekhyundo_table_write(const uint8_t *source, size_t source_length, uint64_t *table, size_t table_length,
+                           uint8_t *file, size_t file_length, uint64_t *answer, size_t answer_length);
 
 #ifdef __cplusplus
 }

@@ -13,14 +13,16 @@ mod c {
         pub fn lekhyundo_constant(
             s: *const u8, n: usize, number: u64, table: *mut u64, size: usize, list: *mut u64, room: usize, answer: *mut u64, six: usize,
         );
+        pub fn lekhyundo_table_check(file: *const u8, n: usize, table: *mut u64, size: usize, answer: *mut u64, five: usize);
+        pub fn lekhyundo_table_write(s: *const u8, n: usize, table: *mut u64, size: usize, file: *mut u8, room: usize, answer: *mut u64, four: usize);
     }
 }
 
 /// Rows that are enough for any source.
 pub const MOST_ROWS: usize = 98_304;
 
-/// Bytes of stack that are enough for any source. A filter of a few levels takes 9 to 16 KiB, a constant in it 17 KiB more; only nesting at all limits takes this.
-pub const MOST_STACK: usize = 1 << 20;
+/// Bytes of stack that are enough for any source. A filter of a few levels takes 11 to 16 KiB, a constant in it 17 KiB more; only nesting at all limits takes this.
+pub const MOST_STACK: usize = 1_088 << 10;
 
 /// The numbers of a row.
 pub const WIDTH: usize = 7;
@@ -40,7 +42,7 @@ pub const TEXT: u64 = 47;
 /// Kind of a float's row; `float_of` gives its number.
 pub const FLOAT: u64 = 11;
 
-/// A number from 1 to 16, its place, and what is needed for 10.
+/// A number from 1 to 19, its place, and what is needed for 10.
 #[derive(Clone, Copy, Debug, PartialEq, Eq)]
 pub struct Refusal {
     pub number: u64,
@@ -69,6 +71,9 @@ impl Refusal {
             14 => "float with too many digits",
             15 => "no such constant, or none that can be worked out",
             16 => "integer divisor zero",
+            17 => "sections don't fill the file exactly",
+            18 => "row is not that of the source",
+            19 => "index is not that of the declaration",
             _ => "unknown number",
         }
     }
@@ -261,3 +266,72 @@ const SIGNED_FIRST: u64 = 1;
 const SIGNED_LAST: u64 = 4;
 const F64: u64 = 10;
 const BOOL: u64 = 12;
+
+/// Rows that are enough for a source of so many bytes: none that is read has more than three to two bytes, and one.
+fn rows_for(length: usize) -> usize {
+    length.min(65_535) * 3 / 2 + 1
+}
+
+/// What a file says that was accepted: its source, the rows of that source's tree, and how many of them are tests (kind 42).
+#[derive(Clone, Debug, PartialEq, Eq)]
+pub struct Checked<'a> {
+    pub source: &'a [u8],
+    pub rows: Vec<Row>,
+    pub tests: usize,
+}
+
+/// The file of a source: its bytes, the rows of its tree and the rows of its declarations by index, each after its count. `table_check`
+/// accepts it. The refusals are those of `Reader::tree`.
+///
+/// ```
+/// let file = lekhyundo::table_write(b"import a;")?;
+/// assert_eq!(file[..4], 9u32.to_le_bytes());
+/// assert_eq!(file[13..17], 4u32.to_le_bytes());
+/// // One declaration, the row before the tree's own.
+/// assert_eq!(file[file.len() - 8..], [1, 0, 0, 0, 2, 0, 0, 0]);
+/// assert_eq!(lekhyundo::table_write(b"import").unwrap_err().number, 11);
+/// # Ok::<(), lekhyundo::Refusal>(())
+/// ```
+pub fn table_write(source: &[u8]) -> Result<Vec<u8>, Refusal> {
+    let most = rows_for(source.len());
+    let mut table = vec![0; most * WIDTH];
+    // Three counts, the source, the rows, and at most an index for each byte of the source.
+    let mut file = vec![0; 12 + source.len() + 8 * WIDTH * most + 4 * source.len()];
+    let mut answer = [0; 4];
+    // SAFETY: as above.
+    unsafe {
+        c::lekhyundo_table_write(
+            source.as_ptr(), source.len(), table.as_mut_ptr(), table.len(), file.as_mut_ptr(), file.len(), answer.as_mut_ptr(), 4,
+        )
+    };
+    file.truncate(taken(answer)?);
+    Ok(file)
+}
+
+/// Whether the rows and indexes of such a file, of whatever tool, are those of its source. 17 at 0, 0 where the sections don't fill the
+/// file exactly; then the refusals of `Reader::tree`, placed in the source; then 18 at the number of the first row that differs, is missing or is
+/// too many, and that + 1; then 19 at the first such index.
+///
+/// ```
+/// let mut file = lekhyundo::table_write(b"import a;")?;
+/// let checked = lekhyundo::table_check(&file)?;
+/// assert_eq!((checked.source, checked.rows.len(), checked.tests), (&b"import a;"[..], 4, 0));
+///
+/// // The second row's kind is the first number behind two counts, the source and the first row.
+/// file[8 + 9 + 56] = 1;
+/// let refusal = lekhyundo::table_check(&file).unwrap_err();
+/// assert_eq!((refusal.number, refusal.start, refusal.end), (18, 1, 2));
+/// # Ok::<(), lekhyundo::Refusal>(())
+/// ```
+pub fn table_check(file: &[u8]) -> Result<Checked<'_>, Refusal> {
+    let length = file.first_chunk().map_or(0, |count| u32::from_le_bytes(*count) as usize);
+    // The check keeps a number of its own behind the rows.
+    let mut table = vec![0; rows_for(length) * WIDTH + 1];
+    let mut answer = [0; 5];
+    // SAFETY: as above.
+    unsafe { c::lekhyundo_table_check(file.as_ptr(), file.len(), table.as_mut_ptr(), table.len(), answer.as_mut_ptr(), 5) };
+    let [number, start, end, count, tests] = answer;
+    let count = taken([number, start, end, count])?;
+    let rows = table.chunks_exact(WIDTH).take(count).map(|row| row.try_into().expect("a row's numbers")).collect();
+    Ok(Checked { source: &file[4..4 + length], rows, tests: tests as usize })
+}

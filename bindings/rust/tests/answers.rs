@@ -1,5 +1,6 @@
 use lekhyundo::{
-    Constant, F_STRING, FLOAT, Float, Reader, Refusal, SIZE, TEXT, Token, WIDTH, at, constant, decode, float, float_of, name, subtree, tokens,
+    Constant, F_STRING, FLOAT, Float, Reader, Refusal, SIZE, TEXT, Token, WIDTH, at, constant, decode, float, float_of, name, subtree, table_check,
+    table_write, tokens,
 };
 
 fn refusal(number: u64, start: usize, end: usize) -> Refusal {
@@ -193,4 +194,55 @@ fn a_constant_is_refused_where_the_reason_stands() {
     assert_eq!(constant(longest.as_bytes(), 0), Ok(Constant::Integer(512)));
     assert_eq!(constant(longer.as_bytes(), 0), Err(refusal(15, 15, longer.len() - 1)));
     assert_eq!(constant(b"const A: u8 = 1;", u64::MAX), Err(refusal(15, 0, 0)));
+}
+
+#[test]
+fn a_file_of_ours_is_accepted_with_its_rows() {
+    for source in [&b""[..], b"const A: u8 = 1;", b"fn f() { import a; } fn g() {}", &b"import a;".repeat(7_281)] {
+        let file = table_write(source).unwrap();
+        let checked = table_check(&file).unwrap();
+        assert_eq!(checked.source, source);
+        assert_eq!(checked.rows, Reader::default().tree(source).unwrap().collect::<Vec<_>>());
+        assert_eq!(checked.tests, 0);
+        assert_eq!(table_check(&file[..file.len() - 1]), Err(refusal(17, 0, 0)));
+    }
+    assert_eq!(table_write(b"const A"), Err(refusal(11, 7, 7)));
+    assert_eq!(table_write(&[b' '; 65_536]), Err(refusal(1, 65_535, 65_535)));
+}
+
+/// A file of a source, rows of seven numbers and indexes.
+fn file(source: &[u8], rows: &[[u64; WIDTH]], indexes: &[u32]) -> Vec<u8> {
+    let count = |n: usize| (n as u32).to_le_bytes();
+    let numbers: Vec<u8> = rows.iter().flatten().flat_map(|n| n.to_le_bytes()).collect();
+    let indexed: Vec<u8> = indexes.iter().flat_map(|n| n.to_le_bytes()).collect();
+    [&count(source.len())[..], source, &count(rows.len()), &numbers, &count(indexes.len()), &indexed].concat()
+}
+
+#[test]
+fn a_file_of_another_tool_is_accepted_only_if_it_is_ours() {
+    let source = b"const A: u8 = 1;";
+    let rows: Vec<_> = Reader::default().tree(source).unwrap().collect();
+    assert_eq!(file(source, &rows, &[5]), table_write(source).unwrap());
+    for (bytes, number, start, end) in [
+        (vec![], 17, 0, 0),
+        (vec![0; 12], 18, 0, 1),
+        ([0u32, u32::MAX, u32::MAX].map(u32::to_le_bytes).concat(), 17, 0, 0),
+        // The source's own refusal comes before that of its rows, at a place in the source.
+        (file(b"const", &[], &[]), 11, 5, 5),
+        (file(&[b' '; 65_536], &[], &[]), 1, 65_535, 65_535),
+        (file(source, &rows[..3], &[5]), 18, 3, 4),
+        (file(source, &[&rows[..], &[[0; WIDTH]]].concat(), &[5]), 18, 7, 8),
+        (file(source, &rows, &[]), 19, 0, 1),
+        (file(source, &rows, &[4]), 19, 0, 1),
+        (file(source, &rows, &[5, 6]), 19, 1, 2),
+    ] {
+        assert_eq!(table_check(&bytes), Err(refusal(number, start, end)), "{bytes:?}");
+    }
+    for row in 0..rows.len() {
+        for number in 0..WIDTH {
+            let mut other = rows.clone();
+            other[row][number] += 1 << 32;
+            assert_eq!(table_check(&file(source, &other, &[5])), Err(refusal(18, row, row + 1)));
+        }
+    }
 }

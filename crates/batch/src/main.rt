@@ -17,6 +17,9 @@ const ENOUGH: u64 = 1000000;
 // More rows than any case asks room for.
 const MOST_ROWS: usize = 10240;
 
+// More bytes than any case has.
+const MOST_BYTES: usize = 131072;
+
 // The next number of a case's line, and enough where the line has ended.
 fn number_behind(behind: u8) -> Numeral {
     if behind == b'\n' {
@@ -99,7 +102,7 @@ struct Line {
 }
 
 // Entries: `a` source to tree, `b` to one expression, `c` to token list, `e` a string token decoded, `f` the number of a float,
-// `k` a constant, `n` the leaf that holds a byte.
+// `k` a constant, `n` the leaf that holds a byte, `t` a file checked, `w` the file of a source.
 fn answer(entry: u8, source: &[u8], line: Line, table: &mut [u64]) {
     let room = line.first as usize;
     match entry {
@@ -110,6 +113,8 @@ fn answer(entry: u8, source: &[u8], line: Line, table: &mut [u64]) {
         b'f' => print::answer_float(source),
         b'k' => listed(source, line, table),
         b'n' => node(source, line.first, table),
+        b't' => print::answer_check(source, table),
+        b'w' => print::answer_write(source, table, room),
         _ => {}
     }
 }
@@ -172,8 +177,15 @@ fn instructions() -> [u64; machine::MOST * machine::WIDTH]
     [0; machine::MOST * machine::WIDTH]
 }
 
+// Zeros for the bytes of a case, likewise.
+fn case_buffer() -> [u8; MOST_BYTES]
+    ensures { λ r. ⌜ 131072 ≡ length r ⌝ }
+{
+    [0; MOST_BYTES]
+}
+
 fn main() {
-    let mut buffer = io::large_buffer();
+    let mut buffer = case_buffer();
     let mut table = case_table();
     answer_all(&mut buffer, &mut table);
 }

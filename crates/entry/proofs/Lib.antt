@@ -1,3 +1,3 @@
-mod Fine
+pub mod Fine
 mod Names
 pub mod Stored

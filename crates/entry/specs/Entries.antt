@@ -25,6 +25,15 @@ abbrev pub leftBy : List ℕ → Read → List ℕ
 leftBy t (Done m h) = keptRows t (h .rows)
 leftBy t (Refused r) = zeroed t 0
 
+-- the same where the rows are left as they were put, in a table of any size
+abbrev pub storedAnswer : ℕ → Read → Answer
+storedAnswer len (Done m h) = record { number = 0; start = 0; end = len; count = h .rows }
+storedAnswer len (Refused r) = refusal r
+
+abbrev pub storedRows : List ℕ → Read → List ℕ
+storedRows t (Done m h) = t
+storedRows t (Refused r) = zeroed t 0
+
 -- "a row of kind 1" whose span fits
 unfoldable pub nameFits : List ℕ → ℕ → ℕ → ℕ → Bool
 nameFits s kind start end = eqb kind 1 && (leb start end && leb end (length s))

@@ -5,7 +5,7 @@ ghost use lib.ListN.{length};
 ghost use Rattle.tokens.specs.Tokens.{refusal, counted as countedOf};
 ghost use Rattle.rows.specs.Rows.{zeroed};
 ghost use Rattle.answers.specs.Entries.{room};
-ghost use Rattle.entry.specs.Entries.{keptRows, answered, leftBy, nameText, nameStart};
+ghost use Rattle.entry.specs.Entries.{keptRows, answered, leftBy, storedAnswer, storedRows, nameText, nameStart};
 use chars::Answer;
 use chars::refusal;
 use parser::Read;
@@ -52,6 +52,21 @@ pub fn answer(table: &mut [u64], size: usize, r: Read) -> Answer
 {
     match r {
         Read::Done(_, here) => counted(table, size, here.rows),
+        Read::Refused(why) => refused(table, why),
+    }
+}
+
+// The answer to a source whose rows were put into a table that keeps them as they are there.
+pub fn answer_put(table: &mut [u64], size: usize, r: Read) -> Answer
+    ensures { λ a. ⌜ (a ≡ storedAnswer size r) × (now (table .exit) ≡ storedRows (now (table .entry)) r) ⌝ }
+{
+    match r {
+        Read::Done(_, here) => Answer {
+            number: refusal::NONE,
+            start: 0,
+            end: size,
+            count: here.rows,
+        },
         Read::Refused(why) => refused(table, why),
     }
 }

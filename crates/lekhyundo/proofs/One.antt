@@ -1,4 +1,4 @@
--- Two answers that the C functions of (a) and (b) permit coincide, and so do the tables; and so do two answers to a float, to a position, and to a constant.
+-- Two answers that the C functions of (a) and (b) permit coincide, and so do the tables; and so do two answers to a float, to a position, to a constant, and of C-21.
 use mathlib.Core.Path.{_≡_, sym, ap, _∙_}
 use mathlib.Core.List.{List}
 use mathlib.Core.Bool.{Bool, true}
@@ -12,11 +12,14 @@ use Rattle.literals.proofs.Answered.{one-answer}
 use Rattle.nodes.proofs.Search as nodes
 use Rattle.constants.specs.declared.Constant.{Constant}
 use Rattle.constants.proofs.Answered as constants
-use Rattle.lekhyundo.specs.Numbers.{answerNumbers, floatNumbers, constantNumbers}
+use Rattle.sheets.specs.declared.Checked.{Checked}
+use Rattle.sheets.proofs.Answered.{one-check, one-write}
+use Rattle.lekhyundo.specs.Numbers.{answerNumbers, floatNumbers, constantNumbers, checkedNumbers}
 use Rattle.lekhyundo.specs.Entered.{Entered}
 use Rattle.lekhyundo.specs.Floated.{Floated}
 use Rattle.lekhyundo.specs.Searched.{Searched}
 use Rattle.lekhyundo.specs.Evaluated.{Evaluated}
+use Rattle.lekhyundo.specs.Tabled.{TableChecked, TableWritten}
 
 pub one-entered : (tree : Bool) (s : List ℕ) (size : ℕ) {t u run x y : List ℕ} → Entered tree s size t run x → Entered tree s size u run y → (t ≡ u) × (x ≡ y)
 one-entered tree s size {run = run} a b =
@@ -33,3 +36,9 @@ pub one-evaluated : (s : List ℕ) (k size room : ℕ) {t u l m run x y : List �
 one-evaluated s k size room {run = run} a b =
     let o = constants.one-answer true s k size room (a .permitted) (b .permitted) in
     (o .1, o .2, a .numbers ∙ ap (λ (c : Constant). sets run 0 (constantNumbers (length s) c)) (o .0) ∙ sym (b .numbers))
+
+pub one-table-checked : (file : List ℕ) (size : ℕ) {t u run x y : List ℕ} → TableChecked file size t run x → TableChecked file size u run y → (t ≡ u) × (x ≡ y)
+one-table-checked file size {run = run} a b = let k = one-check true file size (a .permitted) (b .permitted) in (k .1, a .numbers ∙ ap (λ (q : Checked). sets run 0 (checkedNumbers q)) (k .0) ∙ sym (b .numbers))
+
+pub one-table-written : (s : List ℕ) (size room : ℕ) {t u f g run x y : List ℕ} → TableWritten s size room t f run x → TableWritten s size room u g run y → (t ≡ u) × (f ≡ g) × (x ≡ y)
+one-table-written s size room {run = run} a b = let k = one-write true s size room (a .permitted) (b .permitted) in (k .1, k .2, a .numbers ∙ ap (λ (q : Answer). sets run 0 (answerNumbers q)) (k .0) ∙ sym (b .numbers))

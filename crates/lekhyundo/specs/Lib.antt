@@ -3,3 +3,4 @@ pub mod Entered
 pub mod Floated
 pub mod Searched
 pub mod Evaluated
+pub mod Tabled

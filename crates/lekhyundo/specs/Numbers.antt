@@ -5,6 +5,7 @@ use Rattle.chars.specs.declared.Answer.{Answer}
 use Rattle.literals.specs.declared.Answer as literals
 use Rattle.constants.specs.declared.Constant.{Constant}
 use Rattle.constants.specs.Answers.{answerOf, typeFor, valueBits}
+use Rattle.sheets.specs.declared.Checked.{Checked}
 
 -- "An answer is number, place and a count"
 unfoldable pub answerNumbers : Answer → List ℕ
@@ -18,3 +19,7 @@ floatNumbers a = a .number ∷ a .start ∷ a .end ∷ a .width ∷ a .bits ∷ 
 unfoldable pub constantNumbers : ℕ → Constant → List ℕ
 unfolding answerNumbers
 constantNumbers len c = answerNumbers (answerOf len c) ++ (typeFor c ∷ valueBits c ∷ [])
+
+-- how many rows of a file are tests, behind its answer
+unfoldable pub checkedNumbers : Checked → List ℕ
+checkedNumbers c = c .number ∷ c .start ∷ c .end ∷ c .count ∷ c .tests ∷ []

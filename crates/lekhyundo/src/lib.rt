@@ -15,6 +15,7 @@ ghost use Rattle.lekhyundo.specs.Entered.{Entered};
 ghost use Rattle.lekhyundo.specs.Floated.{Floated};
 ghost use Rattle.lekhyundo.specs.Searched.{Searched};
 ghost use Rattle.lekhyundo.specs.Evaluated.{Evaluated};
+ghost use Rattle.lekhyundo.specs.Tabled.{TableChecked, TableWritten};
 use chars::Answer;
 use reader::entries;
 use tokens::Cursor;
@@ -187,4 +188,31 @@ pub extern "C" fn lekhyundo_constant(
     put_answer(answer, constants::answer(c, s.len()));
     put(answer, 4, constants::declared_type(c));
     put(answer, 5, constants::bits(c));
+}
+
+// C-21: whether a file's rows and indexes are those of its source, its rows in the lent table; number, start, end, rows, tests.
+#[no_mangle]
+pub extern "C" fn lekhyundo_table_check(file: &[u8], table: &mut [u64], answer: &mut [u64])
+    ensures { λ r. ⌜ TableChecked (now (file .entry)) (length (now (table .entry))) (now (table .exit)) (now (answer .entry)) (now (answer .exit)) ⌝ }
+{
+    let a = sheets::check(file, table);
+    put(answer, 0, a.number);
+    put(answer, 1, a.start as u64);
+    put(answer, 2, a.end as u64);
+    put(answer, 3, a.count as u64);
+    put(answer, 4, a.tests as u64);
+}
+
+// C-21: the file of a source in lent bytes, its rows in the lent table; number, start, end, count.
+#[no_mangle]
+pub extern "C" fn lekhyundo_table_write(
+    s: &[u8],
+    table: &mut [u64],
+    file: &mut [u8],
+    answer: &mut [u64],
+)
+    ensures { λ r. ⌜ TableWritten (now (s .entry)) (length (now (table .entry))) (length (now (file .entry))) (now (table .exit)) (now (file .exit)) (now (answer .entry)) (now (answer .exit)) ⌝ }
+{
+    let a = sheets::write(s, table, file);
+    put_answer(answer, a);
 }

@@ -77,8 +77,8 @@ fn wide(b: u8) -> u64 {
     b as u64
 }
 
-fn decoded(s: &[u8], out: &mut [u8]) {
-    let a = strings::decode(s, out);
+// The answer, and where it accepts some bytes, those first in a buffer.
+fn answer_bytes(a: Answer, out: &[u8]) {
     let count = a.count;
     head(a);
     if (a.number == refusal::NONE) & (0 < count) {
@@ -86,6 +86,11 @@ fn decoded(s: &[u8], out: &mut [u8]) {
             hex_line(&out[..count]);
         }
     }
+}
+
+fn decoded(s: &[u8], out: &mut [u8]) {
+    let a = strings::decode(s, out);
+    answer_bytes(a, out);
 }
 
 fn decoded_within(s: &[u8], out: &mut [u8], room: usize) {
@@ -146,17 +151,22 @@ pub fn answer_expression(s: &[u8], table: &mut [u64]) {
     answer_rows(a, table);
 }
 
+fn accepted(first: u64, second: u64) {
+    io::write_all(STDOUT_FILENO, b"accepted");
+    number(first);
+    number(second);
+    io::write_all(STDOUT_FILENO, b"\n");
+}
+
 // The number of a float literal: `accepted WIDTH BITS`, or the refusal.
 pub fn answer_float(t: &[u8]) {
     let a = literals::float(t);
     if a.number == refusal::NONE {
-        io::write_all(STDOUT_FILENO, b"accepted");
-        number(a.width);
-        number(a.bits);
+        accepted(a.width, a.bits);
     } else {
         refused(a.number, a.start, a.end);
+        io::write_all(STDOUT_FILENO, b"\n");
     }
-    io::write_all(STDOUT_FILENO, b"\n");
 }
 
 // Where a leaf was found: `accepted INDEX START END`, or the refusal.
@@ -208,6 +218,53 @@ pub fn answer_leaf(s: &[u8], table: &mut [u64], position: u64) {
         let count = a.count;
         if count <= table.len() / rows::WIDTH {
             leaf(s, &table[..count * rows::WIDTH], position);
+        }
+    } else {
+        head(a);
+    }
+}
+
+// C-21: a file checked: `accepted ROWS TESTS`, or the refusal.
+pub fn answer_check(file: &[u8], table: &mut [u64]) {
+    let a = sheets::check(file, table);
+    if a.number == refusal::NONE {
+        accepted(a.count as u64, a.tests as u64);
+    } else {
+        head(Answer {
+            number: a.number,
+            start: a.start,
+            end: a.end,
+            count: a.count,
+        });
+    }
+}
+
+fn written(s: &[u8], table: &mut [u64], file: &mut [u8]) {
+    let a = sheets::write(s, table, file);
+    answer_bytes(a, file);
+}
+
+fn written_within(s: &[u8], table: &mut [u64], file: &mut [u8], room: usize) {
+    if room < file.len() {
+        written(s, table, &mut file[..room]);
+    } else {
+        written(s, table, file);
+    }
+}
+
+// C-21: the answer, and the file of a source where it accepts, as far as the buffer reaches.
+pub fn answer_write(s: &[u8], table: &mut [u64], room: usize) {
+    let mut file = io::large_buffer();
+    written_within(s, table, &mut file, room);
+}
+
+// C-21: the file of a source itself, or the refusal.
+pub fn answer_file(s: &[u8], table: &mut [u64], file: &mut [u8]) {
+    let a = sheets::write(s, table, file);
+    if a.number == refusal::NONE {
+        let count = a.count;
+        if count <= file.len() {
+            io::write_all(STDOUT_FILENO, &file[..count]);
         }
     } else {
         head(a);

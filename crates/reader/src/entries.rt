@@ -1,20 +1,24 @@
-// Entry points (a) and (b).
+// Entry points (a) and (b), and the rows of (a) put into any table.
 ghost use mathlib.Core.Bool.{true, false};
 ghost use lib.ListN.{length};
 ghost use Rattle.answers.specs.Entries.{Permitted};
+ghost use Rattle.entry.specs.Puts.{Puts};
 use chars::Answer;
 use entry::answer;
+use entry::answer_put;
 use entry::refused;
+use rows::WIDTH;
 use tokens::Whole;
 
-// (a): a source to its tree.
+// (a): a source to its tree. The table is handed on without what is left over behind its rows: it is none to compare with.
 pub fn tree(s: &[u8], table: &mut [u64]) -> Answer
     ensures { λ a. ⌜ Permitted true true (now (s .entry)) (length (now (table .entry))) a (now (table .exit)) ⌝ }
 {
     match tokens::check_source(s) {
         Whole::Refused(why) => refused(table, why),
         Whole::Fine => {
-            let r = super::tree(s, table);
+            let whole = table.len() / WIDTH * WIDTH;
+            let r = super::tree(s, &mut table[..whole]);
             answer(table, s.len(), r)
         }
     }
@@ -27,8 +31,22 @@ pub fn expression(s: &[u8], table: &mut [u64]) -> Answer
     match tokens::check_source(s) {
         Whole::Refused(why) => refused(table, why),
         Whole::Fine => {
-            let r = super::expression(s, table);
+            let whole = table.len() / WIDTH * WIDTH;
+            let r = super::expression(s, &mut table[..whole]);
             answer(table, s.len(), r)
+        }
+    }
+}
+
+// The rows of (a), put into a table one after the other. One to compare with keeps its own, and its last number becomes the first that differs.
+pub fn put_rows(s: &[u8], table: &mut [u64]) -> Answer
+    ensures { λ a. ⌜ Puts true (now (s .entry)) (now (table .entry)) a (now (table .exit)) ⌝ }
+{
+    match tokens::check_source(s) {
+        Whole::Refused(why) => refused(table, why),
+        Whole::Fine => {
+            let r = super::tree(s, table);
+            answer_put(table, s.len(), r)
         }
     }
 }

@@ -1,1 +1,2 @@
-mod Zeros
+pub mod Zeros
+mod Compares

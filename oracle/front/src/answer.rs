@@ -1,16 +1,17 @@
 //! Answers of the entry points from the Rust's lexer and parser, for both programs.
 
+#[path = "constants.rs"]
 mod constants;
 
 use std::panic::{AssertUnwindSafe, catch_unwind};
 
 use protocol::{
-    Case, Constant, Found, NotThere, Refusal, Row, serve, time, write_bytes, write_constant, write_float, write_refusal,
-    write_rows,
+    Case, Constant, Found, NotThere, Refusal, Row, serve, time, write_bytes, write_constant, write_pair, write_refusal, write_rows,
 };
 
 use crate::{
     ast::{Expr, FloatType, Literal},
+    files,
     parser::{
         ParseError, Parser,
         lexer::Lexer,
@@ -32,15 +33,17 @@ pub type WholeSource = fn(&[u8]) -> Result<&str, Refusal>;
 pub fn run(whole: WholeSource) -> std::io::Result<()> {
     let arguments: Vec<String> = std::env::args().skip(1).collect();
     std::panic::set_hook(Box::new(|_| {}));
-    std::thread::Builder::new()
-        .stack_size(STACK)
-        .spawn(move || match arguments.first().map(String::as_str) {
-            Some("tokens") => time_tokens(whole, &arguments[1..]),
-            Some("trees") => time_trees(whole, &arguments[1..]),
-            _ => serve(|case, out| answer(whole, case, out)),
-        })?
-        .join()
-        .expect("every failure is caught where a case is answered")
+    on_large_stack(move || match arguments.first().map(String::as_str) {
+        Some("tokens") => time_tokens(whole, &arguments[1..]),
+        Some("trees") => time_trees(whole, &arguments[1..]),
+        _ => serve(|case, out| answer(whole, case, out)),
+    })
+}
+
+/// Runs what reads sources by the Rust on a thread of its own.
+pub fn on_large_stack(run: impl FnOnce() -> std::io::Result<()> + Send + 'static) -> std::io::Result<()> {
+    let thread = std::thread::Builder::new().stack_size(STACK).spawn(run)?;
+    thread.join().expect("every failure is caught where a case is answered")
 }
 
 fn time_tokens(whole: WholeSource, arguments: &[String]) -> std::io::Result<()> {
@@ -61,10 +64,13 @@ fn time_trees(whole: WholeSource, arguments: &[String]) -> std::io::Result<()> {
 
 fn answer(whole: WholeSource, case: &Case<'_>, out: &mut String) {
     let length = case.source.len();
+    let rows = |source: &[u8]| whole(source).and_then(tree);
     let done = catch_unwind(AssertUnwindSafe(|| match case.entry {
         b'e' => write_bytes(out, decoded(whole, case.source).as_deref().map_err(|r| *r), case.room),
-        b'f' => write_float(out, float(whole, case.source)),
+        b'f' => write_pair(out, float(whole, case.source)),
         b'k' => write_constant(out, constant(whole, case)),
+        b't' => write_pair(out, files::check(case.source, rows).map(|checked| (checked.rows, checked.tests))),
+        b'w' => write_bytes(out, files::write(case.source, rows).as_deref().map_err(|r| *r), case.room),
         b'c' => write_rows(out, &found(whole(case.source), tokens), case.room),
         b'b' => write_rows(out, &found(whole(case.source), expression), case.room),
         _ => write_rows(out, &found(whole(case.source), tree), case.room),
@@ -110,7 +116,7 @@ fn expression(source: &str) -> Result<Vec<Row>, Refusal> {
 }
 
 /// (a): source to tree.
-fn tree(source: &str) -> Result<Vec<Row>, Refusal> {
+pub fn tree(source: &str) -> Result<Vec<Row>, Refusal> {
     let mut spans = Spans::default();
     let (tree, _) = Parser::parse(0, &mut spans, source).map_err(|e| refusal(source, &e))?;
     Ok(rows::tree(&spans, source, &tree))

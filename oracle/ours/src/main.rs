@@ -1,8 +1,7 @@
 //! Our own code behind the protocol: the compiled Rattle library, called as C calls it.
 
 use protocol::{
-    Case, Constant, NotThere, Refusal, WIDTH, serve, time, write_bytes, write_constant, write_float, write_no_room, write_refusal,
-    write_row,
+    Case, Constant, NotThere, Refusal, WIDTH, serve, time, write_bytes, write_constant, write_no_room, write_pair, write_refusal, write_row,
 };
 
 mod list;
@@ -48,6 +47,15 @@ unsafe extern "C" {
     /// C-18; answer: number, start, end, count, type, bits.
     fn lekhyundo_constant(
         source: *const u8, length: usize, number: u64, table: *mut u64, table_length: usize, list: *mut u64, list_length: usize,
+        answer: *mut u64, answer_length: usize,
+    );
+    /// C-21, the rows in `table`; answer: number, start, end, rows, tests.
+    fn lekhyundo_table_check(
+        file: *const u8, length: usize, table: *mut u64, table_length: usize, answer: *mut u64, answer_length: usize,
+    );
+    /// C-21, the rows in `table`; answer: number, start, end, bytes.
+    fn lekhyundo_table_write(
+        source: *const u8, length: usize, table: *mut u64, table_length: usize, file: *mut u8, file_length: usize,
         answer: *mut u64, answer_length: usize,
     );
 }
@@ -162,7 +170,7 @@ fn rows(case: &Case<'_>, out: &mut String) {
     }
 }
 
-/// (e), into bytes that are not zero before. What is left of them must be zeros.
+/// (e), into bytes that are not zero before.
 fn decode(case: &Case<'_>, out: &mut String) {
     let mut bytes = vec![0xa5u8; case.room.min(1 << 17) as usize];
     let mut answer = [u64::MAX; 4];
@@ -172,10 +180,14 @@ fn decode(case: &Case<'_>, out: &mut String) {
             case.source.as_ptr(), case.source.len(), bytes.as_mut_ptr(), bytes.len(), answer.as_mut_ptr(), answer.len(),
         )
     };
-    let [number, start, end, count] = answer;
+    write_lent(answer, &bytes, case.room, out);
+}
+
+/// The answer of what writes to lent bytes. What is left of them must be zeros.
+fn write_lent([number, start, end, count]: [u64; 4], bytes: &[u8], room: u64, out: &mut String) {
     let used = if number == 0 { count as usize } else { 0 };
     match number {
-        0 => write_bytes(out, Ok(&bytes[..used]), case.room),
+        0 => write_bytes(out, Ok(&bytes[..used]), room),
         10 => write_no_room(out, count),
         _ => write_refusal(out, Refusal { number, start, end }),
     }
@@ -191,7 +203,7 @@ fn float(case: &Case<'_>, out: &mut String) {
     unsafe { lekhyundo_float(case.source.as_ptr(), case.source.len(), answer.as_mut_ptr(), answer.len()) };
     let [number, start, end, width, bits] = answer;
     let found = if number == 0 { Ok((width, bits)) } else { Err(Refusal { number, start, end }) };
-    write_float(out, found);
+    write_pair(out, found);
     if (start, end) != (0, case.source.len() as u64) || number != 0 && (width, bits) != (0, 0) {
         out.push_str(&format!("number {number} has place {start} {end}, width {width}, bits {bits}\n"));
     }
@@ -270,6 +282,42 @@ fn float_bits(literal: &[u8]) -> u64 {
     answer[4]
 }
 
+/// C-21: a file checked, in a table with room for all rows that its source can have.
+fn check(case: &Case<'_>, out: &mut String) {
+    let mut table = vec![0xa5u64; (case.source.len() * 3 / 2 + 3) * WIDTH];
+    let mut answer = [u64::MAX; 5];
+    // SAFETY: as above.
+    unsafe {
+        lekhyundo_table_check(
+            case.source.as_ptr(), case.source.len(), table.as_mut_ptr(), table.len(), answer.as_mut_ptr(), answer.len(),
+        )
+    };
+    let [number, start, end, rows, tests] = answer;
+    let found = if number == 0 { Ok((rows, tests)) } else { Err(Refusal { number, start, end }) };
+    write_pair(out, found);
+    let written = if number == 0 { rows as usize * WIDTH } else { 0 };
+    if table[written..].iter().any(|&number| number != 0) || number != 0 && (rows, tests) != (0, 0) {
+        out.push_str(&format!("the rest is not zeros, or number {number} has counts {rows} {tests}\n"));
+    }
+}
+
+/// C-21: the file of a source, in bytes that are not zero before.
+fn write(case: &Case<'_>, out: &mut String) {
+    let most = case.source.len() * 3 / 2 + 2;
+    let mut table = vec![0xa5u64; most * WIDTH];
+    // No file has more declarations than bytes in its source.
+    let mut bytes = vec![0xa5u8; case.room.min((12 + 5 * case.source.len() + 8 * WIDTH * most) as u64) as usize];
+    let mut answer = [u64::MAX; 4];
+    // SAFETY: as above.
+    unsafe {
+        lekhyundo_table_write(
+            case.source.as_ptr(), case.source.len(), table.as_mut_ptr(), table.len(), bytes.as_mut_ptr(), bytes.len(),
+            answer.as_mut_ptr(), answer.len(),
+        )
+    };
+    write_lent(answer, &bytes, case.room, out);
+}
+
 /// Into a list of exactly the tokens that there are.
 fn time_tokens(arguments: &[String]) -> std::io::Result<()> {
     let list = std::cell::RefCell::new(Vec::new());
@@ -309,6 +357,8 @@ fn main() -> std::io::Result<()> {
             b'f' => float(case, out),
             b'k' => constant(case, out),
             b'n' => node(case, out),
+            b't' => check(case, out),
+            b'w' => write(case, out),
             _ => decode(case, out),
         }),
     }

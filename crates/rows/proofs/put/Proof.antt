@@ -1,12 +1,31 @@
-use borrow.Author.Needs.{needs}
-use borrow.Author.Tests.{lt-ltb, le-ltb}
 use native.Mathlib.Omega.{arith}
 use lib.ListN.{length-set}
-use Rattle.rows.specs.Rows.{putRow}
+use Rattle.rows.proofs.Compares.{noted-differs, noted-same, put-compares, put-writes, put-full}
+use borrow.Author.Needs.{needs}
 use Rattle.rows.proofs.put.Statement.{statement}
 use Rattle.rows.proofs.put.Tie as tie
 use Rattle.rows.proofs.put.Reads as reads
 use Rattle.rows.proofs.put.Lts as lts
+use Rattle.rows.proofs.note.Reads as note-reads
+use Rattle.rows.proofs.same_at.Reads as same-at-reads
+
+same-at-requires : tie.Need-same-at-requires
+same-at-requires c κs = search needs
+
+note-requires : tie.Need-note-requires
+note-requires c κs = search needs
+
+same-length : tie.Need-same-length
+same-length c = search needs
+
+returns : tie.Need-returns
+returns c = put-compares _ _ _ _ (c .before .before .before .before .before .before .before .if1 .taken) (noted-differs _ _ _ _ (c .before .before .before .before .before .same-at .ensures) (c .before .before .before .before .if2 .taken) (c .before .before .note .ensures))
+
+same-length-2 : tie.Need-same-length-2
+same-length-2 c = search needs
+
+returns-2 : tie.Need-returns-2
+returns-2 c = put-compares _ _ _ _ (c .before .before .before .if1 .taken) (noted-same _ _ _ _ (c .before .same-at .ensures) (c .if2 .left))
 
 mul-i : tie.Need-mul-i
 mul-i c = search needs
@@ -71,21 +90,25 @@ mul-table-7 c = search needs
 slice-write-table-7 : tie.Need-slice-write-table-7
 slice-write-table-7 c = simp length-set (omega arith)
 
-same-length : tie.Need-same-length
-same-length c = search needs
+same-length-3 : tie.Need-same-length-3
+same-length-3 c = simp length-set
 
-returns : tie.Need-returns
-unfolding putRow
-returns c = simp (lt-ltb _ _ (c .if1 .taken))
+returns-3 : tie.Need-returns-3
+returns-3 c = put-writes _ _ _ _ (c .before .if1 .left) (c .if3 .taken)
 
-returns-2 : tie.Need-returns-2
-unfolding putRow
-returns-2 c = simp (le-ltb _ _ (c .if1 .left))
+returns-4 : tie.Need-returns-4
+returns-4 c = put-full _ _ _ _ (c .before .if1 .left) (c .if3 .left)
 
 pub put-spec : {M : Type 1} → statement M
 put-spec =
     tie.close
     (tie.spec
+    same-at-requires
+    note-requires
+    same-length
+    returns
+    same-length-2
+    returns-2
     mul-i
     mul-table
     slice-write-table
@@ -107,6 +130,6 @@ put-spec =
     add-table-6
     mul-table-7
     slice-write-table-7
-    same-length
-    returns
-    returns-2)
+    same-length-3
+    returns-3
+    returns-4)

@@ -10,6 +10,7 @@ mod parser;
 #[path = "../rows.rs"]
 mod rows;
 
+use front::files;
 use protocol::Refusal;
 
 /// The commit has a token for `f"`, with code 90 here.

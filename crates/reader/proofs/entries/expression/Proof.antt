@@ -1,9 +1,16 @@
 use mathlib.Core.Path.{sym, _∙_}
 use mathlib.Core.Bool.{false}
+use lib.Seq.{length-take-le}
 use Rattle.entry.proofs.Stored.{permits-early, permits-read}
 use borrow.Author.Needs.{needs}
 use Rattle.reader.proofs.entries.expression.Statement.{statement}
 use Rattle.reader.proofs.entries.expression.Tie as tie
+use Rattle.reader.proofs.entries.expression.Reads as reads
+use Rattle.reader.proofs.entries.expression.Lts as lts
+use Rattle.entry.proofs.answer.Reads as answer-reads
+use Rattle.entry.proofs.refused.Reads as refused-reads
+use Rattle.reader.proofs.expression.Reads as expression-reads
+use Rattle.tokens.proofs.check_source.Reads as check-source-reads
 
 check-source-requires : tie.Need-check-source-requires
 check-source-requires c κs = search needs
@@ -16,6 +23,15 @@ refused-requires c κs = search needs
 
 enum-told : tie.Need-enum-told
 enum-told c = search needs
+
+mul-whole : tie.Need-mul-whole
+mul-whole c = search needs
+
+slice-relend-prefix-expression : tie.Need-slice-relend-prefix-expression
+slice-relend-prefix-expression c = search needs
+
+slice-aggregate-expression : tie.Need-slice-aggregate-expression
+slice-aggregate-expression c = sym (length-take-le _ _ (slice-relend-prefix-expression (c .before)))
 
 expression-requires : tie.Need-expression-requires
 expression-requires c κs = search needs
@@ -33,7 +49,22 @@ same-length-2 : tie.Need-same-length-2
 same-length-2 c = search needs
 
 returns-2 : tie.Need-returns-2
-returns-2 c = permits-read false _ _ (sym (c .before .before .before .before .before .before .before .before .before .before .check-source .ensures .0) ∙ c .before .before .before .before .before .before .before .before .enum-told .given .1) (c .before .before .before .before .before .before .expression .ensures) (c .before .before .answer .ensures)
+returns-2 c = permits-read false _ (c .before .before .before .before .before .before .before .before .before .before .before .before .before .args .table .now) (sym (c .before .before .before .before .before .before .before .before .before .before .check-source .ensures .0) ∙ c .before .before .before .before .before .before .before .before .enum-told .given .1) (c .before .before .before .before .before .before .expression .ensures) (c .before .before .answer .ensures)
 
 pub expression-spec : {M : Type 1} → statement M
-expression-spec = tie.close (tie.spec check-source-requires enum-known-why refused-requires enum-told expression-requires answer-requires same-length returns same-length-2 returns-2)
+expression-spec =
+    tie.close
+    (tie.spec
+    check-source-requires
+    enum-known-why
+    refused-requires
+    enum-told
+    mul-whole
+    slice-relend-prefix-expression
+    slice-aggregate-expression
+    expression-requires
+    answer-requires
+    same-length
+    returns
+    same-length-2
+    returns-2)

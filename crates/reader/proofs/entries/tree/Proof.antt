@@ -1,9 +1,16 @@
 use mathlib.Core.Path.{sym, _∙_}
 use mathlib.Core.Bool.{true}
+use lib.Seq.{length-take-le}
 use Rattle.entry.proofs.Stored.{permits-early, permits-read}
 use borrow.Author.Needs.{needs}
 use Rattle.reader.proofs.entries.tree.Statement.{statement}
 use Rattle.reader.proofs.entries.tree.Tie as tie
+use Rattle.reader.proofs.entries.tree.Reads as reads
+use Rattle.reader.proofs.entries.tree.Lts as lts
+use Rattle.entry.proofs.answer.Reads as answer-reads
+use Rattle.entry.proofs.refused.Reads as refused-reads
+use Rattle.reader.proofs.tree.Reads as tree-reads
+use Rattle.tokens.proofs.check_source.Reads as check-source-reads
 
 check-source-requires : tie.Need-check-source-requires
 check-source-requires c κs = search needs
@@ -16,6 +23,15 @@ refused-requires c κs = search needs
 
 enum-told : tie.Need-enum-told
 enum-told c = search needs
+
+mul-whole : tie.Need-mul-whole
+mul-whole c = search needs
+
+slice-relend-prefix-tree : tie.Need-slice-relend-prefix-tree
+slice-relend-prefix-tree c = search needs
+
+slice-aggregate-tree : tie.Need-slice-aggregate-tree
+slice-aggregate-tree c = sym (length-take-le _ _ (slice-relend-prefix-tree (c .before)))
 
 tree-requires : tie.Need-tree-requires
 tree-requires c κs = search needs
@@ -33,7 +49,22 @@ same-length-2 : tie.Need-same-length-2
 same-length-2 c = search needs
 
 returns-2 : tie.Need-returns-2
-returns-2 c = permits-read true _ _ (sym (c .before .before .before .before .before .before .before .before .before .before .check-source .ensures .0) ∙ c .before .before .before .before .before .before .before .before .enum-told .given .1) (c .before .before .before .before .before .before .tree .ensures) (c .before .before .answer .ensures)
+returns-2 c = permits-read true _ (c .before .before .before .before .before .before .before .before .before .before .before .before .before .args .table .now) (sym (c .before .before .before .before .before .before .before .before .before .before .check-source .ensures .0) ∙ c .before .before .before .before .before .before .before .before .enum-told .given .1) (c .before .before .before .before .before .before .tree .ensures) (c .before .before .answer .ensures)
 
 pub tree-spec : {M : Type 1} → statement M
-tree-spec = tie.close (tie.spec check-source-requires enum-known-why refused-requires enum-told tree-requires answer-requires same-length returns same-length-2 returns-2)
+tree-spec =
+    tie.close
+    (tie.spec
+    check-source-requires
+    enum-known-why
+    refused-requires
+    enum-told
+    mul-whole
+    slice-relend-prefix-tree
+    slice-aggregate-tree
+    tree-requires
+    answer-requires
+    same-length
+    returns
+    same-length-2
+    returns-2)

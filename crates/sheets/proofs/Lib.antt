@@ -1,0 +1,11 @@
+pub mod Widths
+pub mod Filled
+pub mod Noted
+pub mod Differences
+pub mod Named
+pub mod Answered
+pub mod Stores
+pub mod Loads
+pub mod Firsts
+pub mod Sources
+pub mod Accounts
