@@ -1,4 +1,4 @@
--- Worked constants: the sources of docs/DECISIONS.md, M1 to M10, by computation. By `one-answer` no other answer is permitted.
+-- Worked constants: the sources of docs/DECISIONS.md, M1 to M10, each integer type and each operator, by computation. By `one-answer` no other answer is permitted.
 use mathlib.Core.Path.{_≡_, refl, sym}
 use mathlib.Core.List.{List, [], _∷_}
 use mathlib.Core.Bool.{Bool, true, false, cond}
@@ -116,6 +116,35 @@ worked =
     is "const A: i8 = -7 / 2;" (Value.Whole 253) 1 4 ∷
     is "const A: i8 = -7 % 2;" (Value.Whole 255) 1 4 ∷
     is "const A: i8 = (-127 - 1) / -1;" (Value.Whole 128) 1 7 ∷
+    -- each type at its width
+    is "const A: i16 = 32767 + 1;" (Value.Whole 32768) 2 3 ∷
+    is "const A: i32 = 2147483647 + 1;" (Value.Whole 2147483648) 3 3 ∷
+    is "const A: i64 = 9223372036854775807 + 1;" (Value.Whole 9223372036854775808) 4 3 ∷
+    is "const A: u16 = 65535 + 1;" (Value.Whole 0) 6 3 ∷
+    is "const A: u32 = 4294967295 + 1;" (Value.Whole 0) 7 3 ∷
+    is "const A: u64 = 18446744073709551615u64 + 1;" (Value.Whole 0) 8 3 ∷
+    -- each operator
+    is "const A: u8 = 3 * 5;" (Value.Whole 15) 5 3 ∷
+    is "const A: bool = true && false;" (Value.Truth false) 12 3 ∷
+    is "const A: bool = true || false;" (Value.Truth true) 12 3 ∷
+    is "const A: bool = 1 == 2;" (Value.Truth false) 12 3 ∷
+    is "const A: bool = 1 == 1;" (Value.Truth true) 12 3 ∷
+    is "const A: bool = 2 == 1;" (Value.Truth false) 12 3 ∷
+    is "const A: bool = 1 != 2;" (Value.Truth true) 12 3 ∷
+    is "const A: bool = 1 != 1;" (Value.Truth false) 12 3 ∷
+    is "const A: bool = 2 != 1;" (Value.Truth true) 12 3 ∷
+    is "const A: bool = 1 < 2;" (Value.Truth true) 12 3 ∷
+    is "const A: bool = 1 < 1;" (Value.Truth false) 12 3 ∷
+    is "const A: bool = 2 < 1;" (Value.Truth false) 12 3 ∷
+    is "const A: bool = 1 <= 2;" (Value.Truth true) 12 3 ∷
+    is "const A: bool = 1 <= 1;" (Value.Truth true) 12 3 ∷
+    is "const A: bool = 2 <= 1;" (Value.Truth false) 12 3 ∷
+    is "const A: bool = 1 > 2;" (Value.Truth false) 12 3 ∷
+    is "const A: bool = 1 > 1;" (Value.Truth false) 12 3 ∷
+    is "const A: bool = 2 > 1;" (Value.Truth true) 12 3 ∷
+    is "const A: bool = 1 >= 2;" (Value.Truth false) 12 3 ∷
+    is "const A: bool = 1 >= 1;" (Value.Truth true) 12 3 ∷
+    is "const A: bool = 2 >= 1;" (Value.Truth true) 12 3 ∷
     -- M5: the list's room; M6: the number of a constant
     record { source = "const A: u8 = 1 + 2;"; number = 0; list = 14; constant = Constant.Refused (record { number = 10; start = 0; end = 0; count = 3 }) } ∷
     record { source = "import a; const A: u8 = 1; fn f() {} const B: u8 = 2;"; number = 1; list = 60; constant = Constant.Is (Value.Whole 2) 5 1 } ∷

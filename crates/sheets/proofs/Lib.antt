@@ -9,3 +9,4 @@ pub mod Loads
 pub mod Firsts
 pub mod Sources
 pub mod Accounts
+pub mod Worked
