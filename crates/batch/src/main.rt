@@ -1,9 +1,5 @@
 // Answers cases from standard input, one after the other: a line `ENTRY LENGTH` or `ENTRY LENGTH ROOM`, for `n` `n LENGTH POSITION`, for `k`
 // `k LENGTH NUMBER [LIST [ROWS]]`, then LENGTH bytes.
-ghost use mathlib.Core.Path.{_≡_};
-ghost use lib.ListN.{length};
-ghost use Prim.Native.Nat.{_*_};
-ghost use Rattle.rows.specs.Rows.{width};
 use decimals::Numeral;
 use libc::STDIN_FILENO;
 use libc::STDOUT_FILENO;
@@ -163,24 +159,18 @@ fn answer_all(buffer: &mut [u8], table: &mut [u64]) {
     }
 }
 
-// Zeros for the rows; the contract gives only the length, which lending it needs.
-fn case_table() -> [u64; MOST_ROWS * rows::WIDTH]
-    ensures { λ r. ⌜ 10240 * width ≡ length r ⌝ }
-{
+// Zeros for the rows.
+fn case_table() -> [u64; MOST_ROWS * rows::WIDTH] {
     [0; MOST_ROWS * rows::WIDTH]
 }
 
 // Zeros for a constant's instructions.
-fn instructions() -> [u64; machine::MOST * machine::WIDTH]
-    ensures { λ r. ⌜ 5120 ≡ length r ⌝ }
-{
+fn instructions() -> [u64; machine::MOST * machine::WIDTH] {
     [0; machine::MOST * machine::WIDTH]
 }
 
-// Zeros for the bytes of a case, likewise.
-fn case_buffer() -> [u8; MOST_BYTES]
-    ensures { λ r. ⌜ 131072 ≡ length r ⌝ }
-{
+// Zeros for the bytes of a case.
+fn case_buffer() -> [u8; MOST_BYTES] {
     [0; MOST_BYTES]
 }
 
