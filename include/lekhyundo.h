@@ -37,7 +37,8 @@ enum lekhyundo_row {
 /* (a) A source to its tree. A row is seven numbers: kind, start, end, children, value, detail, size; children come before their
  * parent. The size is how many rows the whole subtree has, itself included: those of row i are the rows i + 1 - size to i, so that
  * a walk from the last row back skips a subtree at once. Accepted: the rows stand first in the table and zeros fill the rest.
- * Refused: zeros throughout. Room is table_length / LEKHYUNDO_WIDTH; 98,304 rows serve any source. Number 5 is never given. */
+ * Refused: zeros throughout. Room is table_length / LEKHYUNDO_WIDTH; 98,304 rows serve any source. Number 5 is never given. A `test` is refused
+ * with 6, at that word: tests have left the filter file. */
 void lekhyundo_tree(const uint8_t *source, size_t source_length, uint64_t *table, size_t table_length,
                     uint64_t *answer, size_t answer_length);
 
@@ -111,8 +112,9 @@ void lekhyundo_constant(const uint8_t *source, size_t source_length, uint64_t nu
 
 /* A table from another tool: a file of three sections, each after its count as a 32-bit little-endian number: the source's bytes; rows, of
  * LEKHYUNDO_WIDTH 64-bit little-endian numbers each; the rows of the declarations by index from 0, 32-bit likewise. Accepted exactly when the rows are
- * those of (a) for that source and the indexes name its declarations in order. Five numbers: 0, 0, the file's length, how many rows, and how many of them
- * are tests (kind 42). Or a refusal: 17 at 0, 0 where the sections don't fill the file exactly; before that of (a) to the source, its place in the source;
+ * those of (a) for that source and the indexes name its declarations in order; but here, in files made earlier as in any, a test is a declaration still.
+ * Five numbers: 0, 0, the file's length, how many rows, and how many of them are tests (kind 42). Or a refusal: 17 at 0, 0 where the sections don't fill
+ * the file exactly; before that of (a) to the source, `test` apart, its place in the source;
  * before 18 at the number of the first row that differs, is missing or is too many, + 1; before 19 at the first such index, + 1.
  * The file's rows are compared in the lent table as the source is read: it has room for (table_length - 1) / LEKHYUNDO_WIDTH rows, and 10 says how many are
  * needed, as for (a); 98,304 rows and one number more serve any file. Accepted: the rows stand first in the table and zeros fill the rest. Refused: zeros

@@ -1,6 +1,7 @@
-"""tables.py writes COUNT RECORDED ..: cases of entry w, the file of a source: made ones, and the first COUNT short texts of each of the recorded cases.
-   tables.py checks COUNT SEED WRITES ANSWERS: cases of entry t, files checked: made ones, and the files among the answers to such cases, whole and changed
-in one place, COUNT in all (document 02, C-21)."""
+"""tables.py w|o COUNT RECORDED ..: cases of entry w, the file of a source, or of entry o, its file by the old grammar: made ones, and the first COUNT short texts of
+each of the recorded cases.
+   tables.py checks COUNT SEED FILES ANSWERS: cases of entry t, files checked: made ones, and the files among the answers to cases of entry o, whole and changed
+in one place, COUNT in all (document 02, C-21 and C-22)."""
 import random, struct, sys
 
 LONGEST, SHORT = 65535, 60
@@ -21,7 +22,7 @@ def cases_of(path):
         at = end
 
 
-def writes(count, recorded):
+def writes(entry, count, recorded):
     listed = [(source, None) for source in made_sources]
     # The file of CONST has 424 bytes; the others are longer than a buffer is that the tests have, but they are refused.
     listed += [(CONST, room) for room in (0, 1, 423, 424, 425)] + [(b'', 67), (b'', 68), (b'x', 0)]
@@ -29,7 +30,7 @@ def writes(count, recorded):
     for path in recorded:
         listed += [(source, None) for source in [source for source in cases_of(path) if len(source) <= SHORT][:count]]
     for source, room in listed:
-        sys.stdout.buffer.write(b'w %d%s\n' % (len(source), b'' if room is None else b' %d' % room) + source)
+        sys.stdout.buffer.write(b'%s %d%s\n' % (entry, len(source), b'' if room is None else b' %d' % room) + source)
 
 
 def count(n):
@@ -112,7 +113,7 @@ def checks(many, seed, recorded, answers):
         sys.stdout.buffer.write(b't %d\n' % len(one) + one)
 
 
-if sys.argv[1] == 'writes':
-    writes(int(sys.argv[2]), sys.argv[3:])
+if sys.argv[1] in ('w', 'o'):
+    writes(sys.argv[1].encode(), int(sys.argv[2]), sys.argv[3:])
 else:
     checks(int(sys.argv[2]), int(sys.argv[3]), *sys.argv[4:])

@@ -272,7 +272,8 @@ fn rows_for(length: usize) -> usize {
     length.min(65_535) * 3 / 2 + 1
 }
 
-/// What a file says that was accepted: its source, the rows of that source's tree, and how many of them are tests (kind 42).
+/// What a file says that was accepted: its source, the rows of that source's tree, and how many of them are tests (kind 42), which only
+/// files made earlier hold: `Reader::tree` and `table_write` refuse a `test`.
 #[derive(Clone, Debug, PartialEq, Eq)]
 pub struct Checked<'a> {
     pub source: &'a [u8],
@@ -309,7 +310,7 @@ pub fn table_write(source: &[u8]) -> Result<Vec<u8>, Refusal> {
 }
 
 /// Whether the rows and indexes of such a file, of whatever tool, are those of its source. 17 at 0, 0 where the sections don't fill the
-/// file exactly; then the refusals of `Reader::tree`, placed in the source; then 18 at the number of the first row that differs, is missing or is
+/// file exactly; then the refusals of `Reader::tree`, but for `test`, placed in the source; then 18 at the number of the first row that differs, is missing or is
 /// too many, and that + 1; then 19 at the first such index.
 ///
 /// ```

@@ -219,6 +219,20 @@ fn file(source: &[u8], rows: &[[u64; WIDTH]], indexes: &[u32]) -> Vec<u8> {
 }
 
 #[test]
+fn a_test_is_refused_in_a_source_and_counted_in_a_file() {
+    let source = b"test t{}";
+    let at_word = refusal(6, 0, 4);
+    assert_eq!(Reader::default().tree(source).err(), Some(at_word));
+    assert_eq!(table_write(source), Err(at_word));
+    assert_eq!(constant(b"const A: u8 = 1; test t{}", 0), Err(refusal(6, 17, 21)));
+    let rows = [[1, 5, 6, 0, 0, 0, 1], [35, 6, 8, 0, 0, 0, 1], [42, 0, 8, 2, 0, 0, 3], [43, 0, 8, 1, 0, 0, 4]];
+    let whole = file(source, &rows, &[2]);
+    let checked = table_check(&whole).unwrap();
+    assert_eq!((&checked.rows[..], checked.tests), (&rows[..], 1));
+    assert_eq!(table_check(&file(b"test", &[], &[])), Err(refusal(11, 4, 4)));
+}
+
+#[test]
 fn a_file_of_another_tool_is_accepted_only_if_it_is_ours() {
     let source = b"const A: u8 = 1;";
     let rows: Vec<_> = Reader::default().tree(source).unwrap().collect();

@@ -11,3 +11,4 @@ pub mod Demands
 pub mod Culprits
 pub mod Named
 pub mod Sizes
+pub mod Tests

@@ -110,9 +110,9 @@ sign w a e = tokenFor w a e Literal.None
 pub worked-culprits : WorkedCulprits
 unfolding lexer values listOf listFrom tokensOf tokensFrom worked cases bytes
 worked-culprits = record {
-  chained = parted true false (bytes "a==b==c") (bytes "a==b") (bytes "a==b==") (worked-pairs .1 .1 .1 .1 .1 .1 .1 .1 .1 .1 .1 .0) refl refl (sign '==' 4 6) (sign name 6 7 ∷ []) refl refl refl;
-  head-record = parted true false (bytes "if x {y: 1} {}") (bytes "if x {y") (bytes "if x {y:") (worked-pairs .1 .1 .1 .1 .1 .1 .1 .1 .1 .1 .1 .1 .0) refl refl (sign ':' 7 8) _ refl refl refl;
-  left-over = parted true false (bytes "a b") (bytes "a") (bytes "a b") (more-cases .1 .1 .1 .1 .1 .1 .1 .1 .1 .1 .1 .1 .1 .1 .1 .1 .1 .1 .1 .1 .1 .1 .1 .1 .1 .1 .1 .1 .1 .0) refl refl (sign name 2 3) [] refl refl refl;
+  chained = parted false false (bytes "a==b==c") (bytes "a==b") (bytes "a==b==") (worked-pairs .1 .1 .1 .1 .1 .1 .1 .1 .1 .1 .1 .0) refl refl (sign '==' 4 6) (sign name 6 7 ∷ []) refl refl refl;
+  head-record = parted false false (bytes "if x {y: 1} {}") (bytes "if x {y") (bytes "if x {y:") (worked-pairs .1 .1 .1 .1 .1 .1 .1 .1 .1 .1 .1 .1 .0) refl refl (sign ':' 7 8) _ refl refl refl;
+  left-over = parted false false (bytes "a b") (bytes "a") (bytes "a b") (more-cases .1 .1 .1 .1 .1 .1 .1 .1 .1 .1 .1 .1 .1 .1 .1 .1 .1 .1 .1 .1 .1 .1 .1 .1 .1 .1 .1 .1 .1 .0) refl refl (sign name 2 3) [] refl refl refl;
   no-test = parted false true (bytes "test a {}") [] (bytes "test") (more-cases .1 .1 .1 .1 .1 .1 .1 .1 .1 .1 .0) refl refl (sign 'test' 0 4) _ refl refl refl;
-  too-early = true-culprit true false (bytes "1+") _ .on-11 (more-cases .1 .1 .1 .1 .1 .1 .1 .1 .1 .1 .1 .1 .1 .1 .1 .1 .1 .1 .1 .1 .1 .1 .1 .1 .1 .1 .1 .1 .1 .1 .1 .1 .1 .1 .1 .1 .0) (λ q. omega (arith, q)) refl .1;
+  too-early = true-culprit false false (bytes "1+") _ .on-11 (more-cases .1 .1 .1 .1 .1 .1 .1 .1 .1 .1 .1 .1 .1 .1 .1 .1 .1 .1 .1 .1 .1 .1 .1 .1 .1 .1 .1 .1 .1 .1 .1 .1 .1 .1 .1 .1 .0) (λ q. omega (arith, q)) refl .1;
 }

@@ -34,10 +34,10 @@ pub decisions : Each decided
 decisions = each-means 9000 decided decided-computed
 
 -- sources that have a reading: an expression and a tree
-pub an-expression : (p : Parts) × Reading true false (bytes "1+2*3") p
+pub an-expression : (p : Parts) × Reading false false (bytes "1+2*3") p
 unfolding bytes worked
-an-expression = let k = accepted-reads true false _ _ (worked-pairs .1 .1 .1 .1 .1 .1 .1 .1 .1 .1 .0) refl in (k .parts, k .text)
+an-expression = let k = accepted-reads false false _ _ (worked-pairs .1 .1 .1 .1 .1 .1 .1 .1 .1 .1 .0) refl in (k .parts, k .text)
 
-pub a-tree : (p : Parts) × Reading true true (bytes "const A: u8 = 1;") p
+pub a-tree : (p : Parts) × Reading false true (bytes "const A: u8 = 1;") p
 unfolding bytes cases
-a-tree = let k = accepted-reads true true _ _ (more-cases .1 .1 .0) refl in (k .parts, k .text)
+a-tree = let k = accepted-reads false true _ _ (more-cases .1 .1 .0) refl in (k .parts, k .text)

@@ -31,7 +31,7 @@ lent rs = width * (length rs + 8) + 5
 
 -- "0: accepted: 0, length"; another number, with no rows.
 abbrev pub has : Bool → List ℕ → List Row → Case
-has tree s rs = case true tree s (lent rs) 0 0 (length s) (length rs) rs
+has tree s rs = case false tree s (lent rs) 0 0 (length s) (length rs) rs
 
 abbrev pub tree-has : String → List Row → Case
 tree-has t rs = has true (bytes t) rs
@@ -40,10 +40,17 @@ abbrev pub expr-has : String → List Row → Case
 expr-has t rs = has false (bytes t) rs
 
 abbrev pub tree-fails : String → ℕ → ℕ → ℕ → Case
-tree-fails t n a e = case true true (bytes t) (lent []) n a e 0 []
+tree-fails t n a e = case false true (bytes t) (lent []) n a e 0 []
 
 abbrev pub expr-fails : String → ℕ → ℕ → ℕ → Case
-expr-fails t n a e = case true false (bytes t) (lent []) n a e 0 []
+expr-fails t n a e = case false false (bytes t) (lent []) n a e 0 []
+
+-- A tree by the old grammar, as the source of a file of C-21 is read (C-22).
+abbrev pub old-has : String → List Row → Case
+old-has t rs = case true true (bytes t) (lent rs) 0 0 (length (bytes t)) (length rs) rs
+
+abbrev pub old-fails : String → ℕ → ℕ → ℕ → Case
+old-fails t n a e = case true true (bytes t) (lent []) n a e 0 []
 
 -- The rows first and zeros behind.
 abbrev pub table : ℕ → List Row → List ℕ
@@ -90,7 +97,7 @@ unfoldable pub cases : List Case
 unfolding bytes
 cases =
     -- 13: room for 2 rows
-    case true false (bytes "1+2") 14 10 0 0 3 [] ∷
+    case false false (bytes "1+2") 14 10 0 0 3 [] ∷
     -- 14: 33 of `(`
     expr-fails "(((((((((((((((((((((((((((((((((" 9 32 33 ∷
     -- the row printer's source
@@ -127,8 +134,8 @@ cases =
     row 10 125 126 0 2 0 1 ∷ row 23 116 127 2 0 0 8 ∷ row 25 116 128 1 0 0 9 ∷ row 35 55 130 4 1 0 32 ∷ row 41 18 130 5 1 0 53 ∷
     row 43 0 130 2 0 0 62 ∷ []) ∷
     -- `test` is a declaration in the old grammar, and none in the new
-    tree-has "test a {}" (row 1 5 6 0 0 0 1 ∷ row 35 7 9 0 0 0 1 ∷ row 42 0 9 2 0 0 3 ∷ row 43 0 9 1 0 0 4 ∷ []) ∷
-    case false true (bytes "test a {}") (lent []) 6 0 4 0 [] ∷
+    old-has "test a {}" (row 1 5 6 0 0 0 1 ∷ row 35 7 9 0 0 0 1 ∷ row 42 0 9 2 0 0 3 ∷ row 43 0 9 1 0 0 4 ∷ []) ∷
+    tree-fails "test a {}" 6 0 4 ∷
     -- no reading: an if that goes on, a bare group, a return form as an operand, no item after a period
     expr-fails "{if a {} +b}" 6 9 10 ∷
     tree-fails "import {a};" 6 7 8 ∷

@@ -78,12 +78,12 @@ CulpritAfter tests tree before up-to = BytesBegin tests tree before × (BytesBeg
 
 pub record WorkedCulprits : Type 0 where
   -- pair 11, `a==b==c`: 6 at 4, 6
-  pub chained : CulpritAfter true false "a==b" "a==b=="
+  pub chained : CulpritAfter false false "a==b" "a==b=="
   -- pair 12, `if x {y: 1} {}`: 6 at 7, 8
-  pub head-record : CulpritAfter true false "if x {y" "if x {y:"
+  pub head-record : CulpritAfter false false "if x {y" "if x {y:"
   -- `a b`: (b) gives 6 at a token left over
-  pub left-over : CulpritAfter true false "a" "a b"
+  pub left-over : CulpritAfter false false "a" "a b"
   -- C-22: `test a {}`, where `test` is no declaration
   pub no-test : CulpritAfter false true "" "test"
   -- `1+`: 11
-  pub too-early : BytesBegin true false "1+"
+  pub too-early : BytesBegin false false "1+"

@@ -1,7 +1,7 @@
 -- What was decided where the words of documents 01 and 02 leave room, each with a small source that tells.
 use mathlib.Core.List.{List, [], _∷_}
 use Rattle.chars.specs.Texts.{bytes}
-use Rattle.answers.specs.Cases.{Case, row, tree-has, expr-has, tree-fails, expr-fails}
+use Rattle.answers.specs.Cases.{Case, row, tree-has, expr-has, tree-fails, expr-fails, old-has, old-fails}
 
 unfoldable pub decided : List Case
 unfolding bytes
@@ -235,4 +235,14 @@ decided =
     expr-has "1u16" (row 10 0 4 0 1 6 1 ∷ []) ∷
     expr-has "1u32" (row 10 0 4 0 1 7 1 ∷ []) ∷
     expr-has "1.0" (row 11 0 3 0 0 0 1 ∷ []) ∷
+    -- C-22: 6 at `test`, whatever stands behind it; what stands before it comes first; it stays a keyword
+    tree-fails "test" 6 0 4 ∷
+    old-fails "test" 11 4 4 ∷
+    tree-fails "test $" 6 0 4 ∷
+    tree-fails "$ test" 4 0 1 ∷
+    tree-fails "fn f() {} test t {}" 6 10 14 ∷
+    old-has "fn f() {} test t {}" (row 1 3 4 0 0 0 1 ∷ row 35 7 9 0 0 0 1 ∷ row 41 0 9 2 0 0 3 ∷ row 1 15 16 0 0 0 1 ∷ row 35 17 19 0 0 0 1 ∷ row 42 10 19 2 0 0 3 ∷ row 43 0 19 2 0 0 7 ∷ []) ∷
+    tree-fails "fn test() {}" 6 3 7 ∷
+    old-fails "fn test() {}" 6 3 7 ∷
+    expr-fails "test" 6 0 4 ∷
     []

@@ -3,6 +3,7 @@ pub mod Entries
 pub mod Demands
 pub mod Culprit
 pub mod Sizes
+pub mod Tests
 pub mod Compute
 pub mod Cases
 pub mod Decided

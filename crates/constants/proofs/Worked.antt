@@ -55,7 +55,7 @@ from c (some o) = cond (eqb (o .answer .number) 0) (some (numberedAt (bytes (c .
 
 unfoldable computed : List Case → List (Option Constant)
 computed [] = []
-computed (c ∷ cs) = from c (outcome (bytes (c .source)) lent fuel true true) ∷ computed cs
+computed (c ∷ cs) = from c (outcome (bytes (c .source)) lent fuel false true) ∷ computed cs
 
 unfoldable stated : List Case → List (Option Constant)
 stated [] = []
@@ -63,29 +63,29 @@ stated (c ∷ cs) = some (c .constant) ∷ stated cs
 
 -- each has its constant
 abbrev pub Has : Case → Type 0
-Has c = (T : List ℕ) × (L : List ℕ) × Permitted true (bytes (c .source)) (c .number) lent (c .list) (c .constant) T L
+Has c = (T : List ℕ) × (L : List ℕ) × Permitted false (bytes (c .source)) (c .number) lent (c .list) (c .constant) T L
 
 abbrev pub Each : List Case → Type 0
 Each [] = Unit {0}
 Each (c ∷ cs) = Has c × Each cs
 
-has : (c : Case) (o : Option Outcome) → outcome (bytes (c .source)) lent fuel true true ≡ o → from c o ≡ some (c .constant) → Has c
+has : (c : Case) (o : Option Outcome) → outcome (bytes (c .source)) lent fuel false true ≡ o → from c o ≡ some (c .constant) → Has c
 has c none e q = let z : _≡_ {A = ℕ} 0 1 = cc in absurd (omega arith)
 has c (some o) e q = go (eqb (o .answer .number) 0) refl q
   where
     go : (b : Bool) → eqb (o .answer .number) 0 ≡ b → cond b (some (numberedAt (bytes (c .source)) (c .list / wide) (o .table) (foundFrom (o .table) 0 (o .answer .count) (c .number)))) none ≡ some (c .constant) → Has c
     go true z r =
         let k : numberedAt (bytes (c .source)) (c .list / wide) (o .table) (foundFrom (o .table) 0 (o .answer .count) (c .number)) ≡ c .constant = cc in
-        answer-by true (bytes (c .source)) (c .number) lent (c .list) (outcome-means (bytes (c .source)) lent fuel true true e) (eqb-true (o .answer .number) 0 z) (c .constant) (sym k)
+        answer-by false (bytes (c .source)) (c .number) lent (c .list) (outcome-means (bytes (c .source)) lent fuel false true e) (eqb-true (o .answer .number) 0 z) (c .constant) (sym k)
     go false z r = let y : _≡_ {A = ℕ} 0 1 = cc in absurd (omega arith)
 
 each-has : (cs : List Case) → computed cs ≡ stated cs → Each cs
 unfolding computed stated
 each-has [] e = tt
 each-has (c ∷ cs) e =
-    let a : from c (outcome (bytes (c .source)) lent fuel true true) ≡ some (c .constant) = cc in
+    let a : from c (outcome (bytes (c .source)) lent fuel false true) ≡ some (c .constant) = cc in
     let b : computed cs ≡ stated cs = cc in
-    (has c (outcome (bytes (c .source)) lent fuel true true) refl a, each-has cs b)
+    (has c (outcome (bytes (c .source)) lent fuel false true) refl a, each-has cs b)
 
 abbrev is : String → Value → ℕ → ℕ → Case
 is t v w n = record { source = t; number = 0; list = 60; constant = Constant.Is v w n }

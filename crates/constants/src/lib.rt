@@ -1,6 +1,6 @@
 // What a constant comes to: its expression is translated into a list of stack instructions, one a row, and the list is run.
 ghost use mathlib.Core.Path.{_≡_};
-ghost use mathlib.Core.Bool.{true};
+ghost use mathlib.Core.Bool.{false};
 ghost use Prim.Native.Nat.{_+_, _-_, _*_, _/_, _≤_};
 ghost use lib.ListN.{length};
 ghost use Rattle.rows.specs.Rows.{width};
@@ -455,7 +455,7 @@ fn numbered(s: &[u8], number: u64, table: &[u64], count: usize, list: &mut [u64]
 
 // C-18: the value of the constant with a number, from 0, among the `const` declarations of a source; its rows and its instructions in lent tables.
 pub fn evaluate(s: &[u8], number: u64, table: &mut [u64], list: &mut [u64]) -> Constant
-    ensures { λ r. ⌜ Permitted true (now (s .entry)) number (length (now (table .entry))) (length (now (list .entry))) r (now (table .exit)) (now (list .exit)) ⌝ }
+    ensures { λ r. ⌜ Permitted false (now (s .entry)) number (length (now (table .entry))) (length (now (list .entry))) r (now (table .exit)) (now (list .exit)) ⌝ }
 {
     let a = entries::tree(s, table);
     if a.number != refusal::NONE {

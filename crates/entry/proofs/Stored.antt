@@ -134,36 +134,36 @@ kept-is t rs = ap (λ (n : ℕ). zeroed all (cond (leb (length rs) (n / width)) 
     go true h = stored-rows t rs (h tt)
     go false h = zeroed-all all ∙ ap (λ (n : ℕ). replicate n 0) size
 
-module _ (tree : Bool) (s t : List ℕ) where
-  permitted-as : {a b : Answer} {u v : List ℕ} → a ≡ b → u ≡ v → Permitted true tree s (length t) b v → Permitted true tree s (length t) a u
-  permitted-as {a} {b} {u} {v} e q p = subst (λ (x : Answer). Permitted true tree s (length t) x u) (sym e) (subst (λ (x : List ℕ). Permitted true tree s (length t) b x) (sym q) p)
+module _ (tests tree : Bool) (s t : List ℕ) where
+  permitted-as : {a b : Answer} {u v : List ℕ} → a ≡ b → u ≡ v → Permitted tests tree s (length t) b v → Permitted tests tree s (length t) a u
+  permitted-as {a} {b} {u} {v} e q p = subst (λ (x : Answer). Permitted tests tree s (length t) x u) (sym e) (subst (λ (x : List ℕ). Permitted tests tree s (length t) b x) (sym q) p)
 
   -- 1, 2, 3
-  pub permits-early : {r : Refusal} {a : Answer} {u : List ℕ} → wholeOf s ≡ Bad r → (a ≡ refusal r) × (u ≡ zeroed t 0) → Permitted true tree s (length t) a u
+  pub permits-early : {r : Refusal} {a : Answer} {u : List ℕ} → wholeOf s ≡ Bad r → (a ≡ refusal r) × (u ≡ zeroed t 0) → Permitted tests tree s (length t) a u
   permits-early e p = permitted-as (p .0) (p .1 ∙ zeroed-all t) (answers.early e)
 
   -- what the grammar says: the rows' part of the table was handed on
-  pub permits-read : {r : Read} {t′ : List ℕ} {a : Answer} {u : List ℕ} → wholeOf s ≡ Fine → Finished tree s (rowsPart t) r t′ → (a ≡ answered (length s) (length (t′ ++ leftOver t)) r) × (u ≡ leftBy (t′ ++ leftOver t) r) → Permitted true tree s (length t) a u
+  pub permits-read : {r : Read} {t′ : List ℕ} {a : Answer} {u : List ℕ} → wholeOf s ≡ Fine → Finished tests tree s (rowsPart t) r t′ → (a ≡ answered (length s) (length (t′ ++ leftOver t)) r) × (u ≡ leftBy (t′ ++ leftOver t) r) → Permitted tests tree s (length t) a u
   permits-read {r} {t′} {a} {u} e f p = go r (f .short (fine-short s e)) (p .0) (p .1)
     where
-      go : (r : Read) → FinishedIs tree s (rowsPart t) r t′ → a ≡ answered (length s) (length (t′ ++ leftOver t)) r → u ≡ leftBy (t′ ++ leftOver t) r → Permitted true tree s (length t) a u
+      go : (r : Read) → FinishedIs tests tree s (rowsPart t) r t′ → a ≡ answered (length s) (length (t′ ++ leftOver t)) r → u ≡ leftBy (t′ ++ leftOver t) r → Permitted tests tree s (length t) a u
       go (Done m h) (rs, x, n, q) y z =
           let size : length (t′ ++ leftOver t) ≡ length t = over-length t t′ (ap length q ∙ store-length (rowsPart t) 0 rs) in
           permitted-as (y ∙ ap (λ (k : ℕ). counted (length s) k (room (length (t′ ++ leftOver t)))) n ∙ ap (λ (k : ℕ). counted (length s) (length rs) (room k)) size) (z ∙ ap (keptRows (t′ ++ leftOver t)) n ∙ ap (λ (l : List ℕ). keptRows (l ++ leftOver t) (length rs)) q ∙ kept-is t rs) (read e x)
       go (Refused w) (x, k) y z = permitted-as y (z ∙ zeroed-all (t′ ++ leftOver t) ∙ ap (λ (n : ℕ). replicate n 0) (over-length t t′ k)) (read e x)
 
 -- the rows put into any table
-module _ (s t : List ℕ) where
-  puts-as : {a b : Answer} {u v : List ℕ} → a ≡ b → u ≡ v → Puts true s t b v → Puts true s t a u
-  puts-as {a} {b} {u} {v} e q p = subst (λ (x : Answer). Puts true s t x u) (sym e) (subst (λ (x : List ℕ). Puts true s t b x) (sym q) p)
+module _ (tests : Bool) (s t : List ℕ) where
+  puts-as : {a b : Answer} {u v : List ℕ} → a ≡ b → u ≡ v → Puts tests s t b v → Puts tests s t a u
+  puts-as {a} {b} {u} {v} e q p = subst (λ (x : Answer). Puts tests s t x u) (sym e) (subst (λ (x : List ℕ). Puts tests s t b x) (sym q) p)
 
-  pub puts-early : {r : Refusal} {a : Answer} {u : List ℕ} → wholeOf s ≡ Bad r → (a ≡ refusal r) × (u ≡ zeroed t 0) → Puts true s t a u
+  pub puts-early : {r : Refusal} {a : Answer} {u : List ℕ} → wholeOf s ≡ Bad r → (a ≡ refusal r) × (u ≡ zeroed t 0) → Puts tests s t a u
   puts-early e p = puts-as (p .0) (p .1 ∙ zeroed-all t) (early e)
 
-  pub puts-read : {r : Read} {t′ : List ℕ} {a : Answer} {u : List ℕ} → wholeOf s ≡ Fine → Finished true s t r t′ → (a ≡ storedAnswer (length s) r) × (u ≡ storedRows t′ r) → Puts true s t a u
+  pub puts-read : {r : Read} {t′ : List ℕ} {a : Answer} {u : List ℕ} → wholeOf s ≡ Fine → Finished tests true s t r t′ → (a ≡ storedAnswer (length s) r) × (u ≡ storedRows t′ r) → Puts tests s t a u
   puts-read {r} {t′} {a} {u} e f p = go r (f .short (fine-short s e)) (p .0) (p .1)
     where
-      go : (r : Read) → FinishedIs true s t r t′ → a ≡ storedAnswer (length s) r → u ≡ storedRows t′ r → Puts true s t a u
+      go : (r : Read) → FinishedIs tests true s t r t′ → a ≡ storedAnswer (length s) r → u ≡ storedRows t′ r → Puts tests s t a u
       go (Done m h) (rs, x, n, q) y z = puts-as (y ∙ ap (λ (k : ℕ). record { number = 0; start = 0; end = length s; count = k }) n) (z ∙ q) (puts e x)
       go (Refused w) (x, k) y z = puts-as y (z ∙ zeroed-all t′ ∙ ap (λ (n : ℕ). replicate n 0) k) (refuses e x)
 

@@ -20,6 +20,7 @@ pub mod Computed
 pub mod Picked
 pub mod Open
 pub mod Entry
+pub mod Tests
 pub mod Sampled
 pub mod Returned
 pub mod InARow

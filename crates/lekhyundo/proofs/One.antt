@@ -1,7 +1,7 @@
 -- Two answers that the C functions of (a) and (b) permit coincide, and so do the tables; and so do two answers to a float, to a position, to a constant, and of C-21.
 use mathlib.Core.Path.{_≡_, sym, ap, _∙_}
 use mathlib.Core.List.{List}
-use mathlib.Core.Bool.{Bool, true}
+use mathlib.Core.Bool.{Bool, true, false}
 use Prim.Native.Nat.{ℕ}
 use lib.ListN.{length}
 use lib.Seq.{sets}
@@ -23,7 +23,7 @@ use Rattle.lekhyundo.specs.Tabled.{TableChecked, TableWritten}
 
 pub one-entered : (tree : Bool) (s : List ℕ) (size : ℕ) {t u run x y : List ℕ} → Entered tree s size t run x → Entered tree s size u run y → (t ≡ u) × (x ≡ y)
 one-entered tree s size {run = run} a b =
-    let k = one-permitted true tree s size (a .permitted) (b .permitted) in
+    let k = one-permitted false tree s size (a .permitted) (b .permitted) in
     (k .1, a .numbers ∙ ap (λ (q : Answer). sets run 0 (answerNumbers q)) (k .0) ∙ sym (b .numbers))
 
 pub one-floated : (text : List ℕ) {run x y : List ℕ} → Floated text run x → Floated text run y → x ≡ y
@@ -34,11 +34,11 @@ one-searched table position {run} a b = a .numbers ∙ ap (λ (q : Answer). sets
 
 pub one-evaluated : (s : List ℕ) (k size room : ℕ) {t u l m run x y : List ℕ} → Evaluated s k size room t l run x → Evaluated s k size room u m run y → (t ≡ u) × (l ≡ m) × (x ≡ y)
 one-evaluated s k size room {run = run} a b =
-    let o = constants.one-answer true s k size room (a .permitted) (b .permitted) in
+    let o = constants.one-answer false s k size room (a .permitted) (b .permitted) in
     (o .1, o .2, a .numbers ∙ ap (λ (c : Constant). sets run 0 (constantNumbers (length s) c)) (o .0) ∙ sym (b .numbers))
 
 pub one-table-checked : (file : List ℕ) (size : ℕ) {t u run x y : List ℕ} → TableChecked file size t run x → TableChecked file size u run y → (t ≡ u) × (x ≡ y)
 one-table-checked file size {run = run} a b = let k = one-check true file size (a .permitted) (b .permitted) in (k .1, a .numbers ∙ ap (λ (q : Checked). sets run 0 (checkedNumbers q)) (k .0) ∙ sym (b .numbers))
 
 pub one-table-written : (s : List ℕ) (size room : ℕ) {t u f g run x y : List ℕ} → TableWritten s size room t f run x → TableWritten s size room u g run y → (t ≡ u) × (f ≡ g) × (x ≡ y)
-one-table-written s size room {run = run} a b = let k = one-write true s size room (a .permitted) (b .permitted) in (k .1, k .2, a .numbers ∙ ap (λ (q : Answer). sets run 0 (answerNumbers q)) (k .0) ∙ sym (b .numbers))
+one-table-written s size room {run = run} a b = let k = one-write false s size room (a .permitted) (b .permitted) in (k .1, k .2, a .numbers ∙ ap (λ (q : Answer). sets run 0 (answerNumbers q)) (k .0) ∙ sym (b .numbers))

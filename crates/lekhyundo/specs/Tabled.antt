@@ -1,7 +1,7 @@
 -- C-21 for C: the answers in a lent run of numbers, rows in a lent table, a file in lent bytes.
 use mathlib.Core.Path.{_≡_}
 use mathlib.Core.List.{List}
-use mathlib.Core.Bool.{true}
+use mathlib.Core.Bool.{true, false}
 use Prim.Native.Nat.{ℕ}
 use lib.Seq.{sets}
 use Rattle.chars.specs.declared.Answer.{Answer}
@@ -18,7 +18,8 @@ pub record TableChecked (file : List ℕ) (size : ℕ) (table run run′ : List 
   pub numbers : run′ ≡ sets run 0 (checkedNumbers answer)
 
 -- An answer of the writer (and by `one-write` there is one), with what then stands in a lent table of `size` numbers and in `room` lent bytes.
+-- By the new grammar (C-22).
 pub record TableWritten (s : List ℕ) (size room : ℕ) (table file run run′ : List ℕ) : Type 0 where
   pub answer : Answer
-  pub permitted : Writes true s size room answer table file
+  pub permitted : Writes false s size room answer table file
   pub numbers : run′ ≡ sets run 0 (answerNumbers answer)

@@ -43,7 +43,7 @@ abbrev pub at : Counts → List Symbol → Left
 at d s = record { at = d; syms = s }
 
 -- a reader begins: the alternative that is asked for
-pub begins : (f : Phrase) (c : List Symbol) → Stands (f .text) (f .from) → chosen language (f .kind) (view (source (f .text)) language (f .from .place)) ≡ some c → Going f (at (f .counts) c ∷ []) (f .from) (f .table) bare 0 0
+unfoldable pub begins : (f : Phrase) (c : List Symbol) → Stands (f .text) (f .from) → chosen language (f .kind) (view (source (f .text)) language (f .from .place)) ≡ some c → Going f (at (f .counts) c ∷ []) (f .from) (f .table) bare 0 0
 unfolding inside store
 begins f c g e = record {
   draft = blank;
@@ -233,7 +233,7 @@ pub adds-phrase : {f : Phrase} {ks : List Left} {h : Here} {t : List ℕ} {y : T
 adds-phrase {f} g u = adds g (u .leaves) (u .rows) (u .stored) (read-sized (f .text) (u .read)) (u .counted) (u .spares)
 
 -- so the phrase goes on
-pub goes-added : {f : Phrase} {ks ks′ : List Left} {h : Here} {t : List ℕ} {y : Tally} {v k j : ℕ} {b : Draft} {m : Node} {z : Here} {t′ : List ℕ} (g : Going f ks h t y v k) → Added f k h t y (g .draft) b m z t′ j → Open (source (f .text)) language (f .counts) same (f .kind) (f .from .place) ks′ (z .place) (with-phrase b (g .draft)) → Stands (f .text) z → Going f ks′ z t′ (withNode y m) v (k + j)
+unfoldable pub goes-added : {f : Phrase} {ks ks′ : List Left} {h : Here} {t : List ℕ} {y : Tally} {v k j : ℕ} {b : Draft} {m : Node} {z : Here} {t′ : List ℕ} (g : Going f ks h t y v k) → Added f k h t y (g .draft) b m z t′ j → Open (source (f .text)) language (f .counts) same (f .kind) (f .from .place) ks′ (z .place) (with-phrase b (g .draft)) → Stands (f .text) z → Going f ks′ z t′ (withNode y m) v (k + j)
 goes-added {b = b} g x o s = record { draft = with-phrase b (g .draft); opened = o; stands = s; holds = x .holds; part = g .part; rows = x .rows; stored = x .stored; sized = x .sized; began = g .began; counted = x .counted; spares = x .spares }
 
 pub reads-one : {f : Phrase} {d : Counts} {ks : List Left} {h : Here} {t : List ℕ} {y : Tally} {v k : ℕ} {ss : List Symbol} {o : Scope} {n j : ℕ} {d′ : Counts} {m : Node} {h′ : Here} {t′ : List ℕ} → Going f (at d (phrase o n ∷ ss) ∷ ks) h t y v k → one-of n rest-kinds ≡ false → inside o d ≡ d′ → Whole (next-phrase f d′ n h t) j m h′ t′ → Going f (at d ss ∷ ks) h′ t′ (withNode y m) v (k + j)

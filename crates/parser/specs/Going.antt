@@ -29,7 +29,7 @@ use Rattle.parser.specs.declared.Read.{Read}
 use Rattle.parser.specs.declared.Read.the-variants.{Done, Refused}
 use Rattle.parser.specs.Places.{wordOf, startOf, endOf, nextOf, hereAt}
 
--- The grammar that is read: document 01's, in which `test` is a declaration.
+-- The grammar that every reader below a tree's follows: the old one of C-22, in which `test` is a declaration. Below a declaration both are the same.
 abbrev pub language : Language
 language = roto true
 

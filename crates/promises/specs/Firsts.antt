@@ -33,6 +33,11 @@ statementFirsts = 'import' ∷ 'let' ∷ exprFirsts
 abbrev pub declarationFirsts : List ℕ
 declarationFirsts = 'const' ∷ 'fn' ∷ 'import' ∷ 'test' ∷ filter-words
 
+-- those of them by which a reader begins a declaration: `test` by the old grammar alone (C-22)
+abbrev pub firstsBy : Bool → List ℕ
+firstsBy true = declarationFirsts
+firstsBy false = 'const' ∷ 'fn' ∷ 'import' ∷ filter-words
+
 -- `?`, `( list of exprs )`, `. name` behind an atom
 abbrev pub signWords : List ℕ
 signWords = '!' ∷ '-' ∷ []

@@ -4,7 +4,7 @@
 -- before, r the answer and t′ the table behind it.
 use mathlib.Core.Path.{_≡_}
 use mathlib.Core.List.{List, [], _∷_}
-use mathlib.Core.Bool.{Bool, true, cond}
+use mathlib.Core.Bool.{Bool, cond}
 use mathlib.Core.Option.{Option, some}
 use mathlib.Core.Logic.{_⊎_, _≢_}
 use Prim.Native.Nat.{ℕ, zero, suc, _+_, _≤_, _<_}
@@ -267,11 +267,11 @@ Beyond s h (Done m z) = Stands s z × (nextOf h < nextOf z)
 Beyond s h (Refused e) = Prim.Unit {0}
 
 -- A whole source: its rows and where they stand in the table, or the refusal that document 01 determines (1 where the
--- source is too long).
-abbrev pub FinishedIs : Bool → List ℕ → List ℕ → Read → List ℕ → Type 0
-FinishedIs tree s t (Done m h) t′ = (rs : List grammar.Row) × answers.Answers (source s) true tree (length s) 0 (accepted rs) × (h .rows ≡ length rs) × (t′ ≡ store t 0 rs)
-FinishedIs tree s t (Refused e) t′ = answers.Answers (source s) true tree (length s) 0 (refused (record { number = e .number; start = e .start; end = e .end })) × (length t′ ≡ length t)
+-- source is too long). `tests`: by the old grammar, in which `test` is a declaration (C-22).
+abbrev pub FinishedIs : Bool → Bool → List ℕ → List ℕ → Read → List ℕ → Type 0
+FinishedIs tests tree s t (Done m h) t′ = (rs : List grammar.Row) × answers.Answers (source s) tests tree (length s) 0 (accepted rs) × (h .rows ≡ length rs) × (t′ ≡ store t 0 rs)
+FinishedIs tests tree s t (Refused e) t′ = answers.Answers (source s) tests tree (length s) 0 (refused (record { number = e .number; start = e .start; end = e .end })) × (length t′ ≡ length t)
 
-pub record Finished (tree : Bool) (s t : List ℕ) (r : Read) (t′ : List ℕ) : Type 0 where
-  pub short : length s ≤ 65535 → FinishedIs tree s t r t′
+pub record Finished (tests tree : Bool) (s t : List ℕ) (r : Read) (t′ : List ℕ) : Type 0 where
+  pub short : length s ≤ 65535 → FinishedIs tests tree s t r t′
   pub long : T (ltb 65535 (length s)) → (r ≡ Refused (refusalAt 1 65535 65535)) × (t′ ≡ t)

@@ -1,4 +1,4 @@
-// Entry points (a) and (b), and the rows of (a) put into any table.
+// Entry points (a) and (b), by the new grammar, and the rows of a file's source, by the old one (C-22), put into any table.
 ghost use mathlib.Core.Bool.{true, false};
 ghost use lib.ListN.{length};
 ghost use Rattle.answers.specs.Entries.{Permitted};
@@ -12,13 +12,13 @@ use tokens::Whole;
 
 // (a): a source to its tree. The table is handed on without what is left over behind its rows: it is none to compare with.
 pub fn tree(s: &[u8], table: &mut [u64]) -> Answer
-    ensures { λ a. ⌜ Permitted true true (now (s .entry)) (length (now (table .entry))) a (now (table .exit)) ⌝ }
+    ensures { λ a. ⌜ Permitted false true (now (s .entry)) (length (now (table .entry))) a (now (table .exit)) ⌝ }
 {
     match tokens::check_source(s) {
         Whole::Refused(why) => refused(table, why),
         Whole::Fine => {
             let whole = table.len() / WIDTH * WIDTH;
-            let r = super::tree(s, &mut table[..whole]);
+            let r = super::tree(s, &mut table[..whole], false);
             answer(table, s.len(), r)
         }
     }
@@ -26,7 +26,7 @@ pub fn tree(s: &[u8], table: &mut [u64]) -> Answer
 
 // (b): a source to one expression.
 pub fn expression(s: &[u8], table: &mut [u64]) -> Answer
-    ensures { λ a. ⌜ Permitted true false (now (s .entry)) (length (now (table .entry))) a (now (table .exit)) ⌝ }
+    ensures { λ a. ⌜ Permitted false false (now (s .entry)) (length (now (table .entry))) a (now (table .exit)) ⌝ }
 {
     match tokens::check_source(s) {
         Whole::Refused(why) => refused(table, why),
@@ -38,14 +38,14 @@ pub fn expression(s: &[u8], table: &mut [u64]) -> Answer
     }
 }
 
-// The rows of (a), put into a table one after the other. One to compare with keeps its own, and its last number becomes the first that differs.
+// The rows of a tree, `test` being a declaration, put into a table one after the other. One to compare with keeps its own, and its last number becomes the first that differs.
 pub fn put_rows(s: &[u8], table: &mut [u64]) -> Answer
     ensures { λ a. ⌜ Puts true (now (s .entry)) (now (table .entry)) a (now (table .exit)) ⌝ }
 {
     match tokens::check_source(s) {
         Whole::Refused(why) => refused(table, why),
         Whole::Fine => {
-            let r = super::tree(s, table);
+            let r = super::tree(s, table, true);
             answer_put(table, s.len(), r)
         }
     }

@@ -997,9 +997,9 @@ fn let_stmt(s: &[u8], table: &mut [u64], here: Here, limits: Limits) -> Read
     finish(table, row, next, here.rows)
 }
 
-// Declarations up to the end of the source, and the tree's row over them.
-fn tree(s: &[u8], table: &mut [u64]) -> Read
-    ensures { λ r. ⌜ Finished true (now (s .entry)) (now (table .entry)) r (now (table .exit)) ⌝ }
+// Declarations up to the end of the source, and the tree's row over them. `tests`: by the old grammar, in which `test` is one (C-22).
+fn tree(s: &[u8], table: &mut [u64], tests: bool) -> Read
+    ensures { λ r. ⌜ Finished tests true (now (s .entry)) (now (table .entry)) r (now (table .exit)) ⌝ }
 {
     if MOST_BYTES < s.len() {
         return refuse(refusal::TOO_LONG, MOST_BYTES, MOST_BYTES);
@@ -1007,7 +1007,7 @@ fn tree(s: &[u8], table: &mut [u64]) -> Read
     let limits = Limits::all();
     let mut here = look(s, Cursor::new(), 0);
     let mut children: u64 = 0;
-    while begins_declaration(here.word()) {
+    while begins_declaration(here.word(), tests) {
         let r = declaration(s, table, here, limits);
         let Read::Done(_, next) = r else {
             return r;
@@ -1023,7 +1023,7 @@ fn tree(s: &[u8], table: &mut [u64]) -> Read
 
 // One expression and the end of the source.
 fn expression(s: &[u8], table: &mut [u64]) -> Read
-    ensures { λ r. ⌜ Finished false (now (s .entry)) (now (table .entry)) r (now (table .exit)) ⌝ }
+    ensures { λ r. ⌜ Finished false false (now (s .entry)) (now (table .entry)) r (now (table .exit)) ⌝ }
 {
     if MOST_BYTES < s.len() {
         return refuse(refusal::TOO_LONG, MOST_BYTES, MOST_BYTES);

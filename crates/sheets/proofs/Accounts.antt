@@ -125,8 +125,8 @@ module _ (b : List ℕ) (each : Bytes b) (size : ℕ) {source rows indexes : ℕ
         (subst (λ (x : Checked). Checks true b size x (flat (fileOf b .rows) ++ replicate (size - width * length (fileOf b .rows)) 0)) (λ i. record { number = 0; start = 0; end = length b; count = c i; tests = sym (k (fileOf b .rows) _ q c) i }) (checks.accepts fills (r .makes) (r .fits) (all-named f n)))
 
 -- the writer
-pub refuses-with : (s : List ℕ) (size room : ℕ) (f : List ℕ) {a : Answer} {t u : List ℕ} → Permitted true true s size a t → a .number ≢ 0 → length f ≡ room → u ≡ zeroed f 0 → Writes true s size room a t u
-refuses-with s size room f {a} {t} {u} p n l e = subst (Writes true s size room a t) (sym (e ∙ zeroed-all f ∙ ap (λ (k : ℕ). replicate k 0) l)) (writer.refuses p n)
+pub refuses-with : {tests : Bool} (s : List ℕ) (size room : ℕ) (f : List ℕ) {a : Answer} {t u : List ℕ} → Permitted tests true s size a t → a .number ≢ 0 → length f ≡ room → u ≡ zeroed f 0 → Writes tests s size room a t u
+refuses-with {tests} s size room f {a} {t} {u} p n l e = subst (Writes tests s size room a t) (sym (e ∙ zeroed-all f ∙ ap (λ (k : ℕ). replicate k 0) l)) (writer.refuses p n)
 
 -- numbers that fit
 pub fit-all : (l : List ℕ) → ((i : ℕ) → i < length l → getD l i 0 < most LONG) → Fit LONG l
@@ -160,14 +160,14 @@ declared-few {rs} {ids} d =
     many n (r ∷ rs) = ap suc (many (n + r .size) rs)
 
 -- a source that (a) accepts
-module _ (s : List ℕ) (size : ℕ) {a : Answer} {t : List ℕ} (p : Permitted true true s size a t) (good : a .number ≡ 0) where
-  abbrev parts : Accepted true true s size a t
-  parts = accepted-reads true true s size p good
+module _ {tests : Bool} (s : List ℕ) (size : ℕ) {a : Answer} {t : List ℕ} (p : Permitted tests true s size a t) (good : a .number ≡ 0) where
+  abbrev parts : Accepted tests true s size a t
+  parts = accepted-reads tests true s size p good
 
   abbrev rs : List Row
   rs = rows true (length s) (parts .parts)
 
-  pub its-makes : Makes true s rs
+  pub its-makes : Makes tests s rs
   its-makes = record { fine = fine-of p good; read = accepts (parts .text) }
 
   pub its-count : a .count ≡ length rs
@@ -189,17 +189,17 @@ module _ (s : List ℕ) (size : ℕ) {a : Answer} {t : List ℕ} (p : Permitted 
   pub need-is : {need k : ℕ} → k ≡ length ids → need ≡ 4 + length s + 4 + a .count * 7 * 8 + 4 + k * 4 → need ≡ sized s rs ids
   need-is e q = let l = written-length (fileFor s rs ids) in omega (arith, l, e, q, its-count)
 
-  pub over-with : (room : ℕ) (f : List ℕ) {need k : ℕ} {u v : List ℕ} → k ≡ length ids → need ≡ 4 + length s + 4 + a .count * 7 * 8 + 4 + k * 4 → room < need → length t ≡ size → length f ≡ room → u ≡ zeroed t 0 → v ≡ zeroed f 0 → Writes true s size room (record { number = 10; start = 0; end = 0; count = need }) u v
+  pub over-with : (room : ℕ) (f : List ℕ) {need k : ℕ} {u v : List ℕ} → k ≡ length ids → need ≡ 4 + length s + 4 + a .count * 7 * 8 + 4 + k * 4 → room < need → length t ≡ size → length f ≡ room → u ≡ zeroed t 0 → v ≡ zeroed f 0 → Writes tests s size room (record { number = 10; start = 0; end = 0; count = need }) u v
   over-with room f {need} {k} {u} {v} e q h l m x y =
       let n = need-is e q in
       let x′ : u ≡ replicate size 0 = x ∙ zeroed-all t ∙ ap (λ (j : ℕ). replicate j 0) l in
       let y′ : v ≡ replicate room 0 = y ∙ zeroed-all f ∙ ap (λ (j : ℕ). replicate j 0) m in
-      subst (Writes true s size room (record { number = 10; start = 0; end = 0; count = need }) u) (sym y′)
-      (subst (λ (z : List ℕ). Writes true s size room (record { number = 10; start = 0; end = 0; count = need }) z (replicate room 0)) (sym x′)
-      (subst (λ (z : ℕ). Writes true s size room (record { number = 10; start = 0; end = 0; count = z }) (replicate size 0) (replicate room 0)) (sym n)
+      subst (Writes tests s size room (record { number = 10; start = 0; end = 0; count = need }) u) (sym y′)
+      (subst (λ (z : List ℕ). Writes tests s size room (record { number = 10; start = 0; end = 0; count = need }) z (replicate room 0)) (sym x′)
+      (subst (λ (z : ℕ). Writes tests s size room (record { number = 10; start = 0; end = 0; count = z }) (replicate size 0) (replicate room 0)) (sym n)
       (writer.over its-makes its-fit (made-declares its-makes .1) (omega (arith, n, h)))))
 
-  pub writes-with : (room : ℕ) (f : List ℕ) {need k : ℕ} {v : List ℕ} → ((i : ℕ) → i < length t → getD t i 0 < most LONG) → k ≡ length ids → need ≡ 4 + length s + 4 + a .count * 7 * 8 + 4 + k * 4 → need ≤ room → length f ≡ room → ((d : Tabled t (a .count)) → v ≡ zeroed (sets f 0 (written (fileFor s (d .rows) (d .ids)))) (sized s (d .rows) (d .ids))) → Writes true s size room (record { number = 0; start = 0; end = length s; count = need }) t v
+  pub writes-with : (room : ℕ) (f : List ℕ) {need k : ℕ} {v : List ℕ} → ((i : ℕ) → i < length t → getD t i 0 < most LONG) → k ≡ length ids → need ≡ 4 + length s + 4 + a .count * 7 * 8 + 4 + k * 4 → need ≤ room → length f ≡ room → ((d : Tabled t (a .count)) → v ≡ zeroed (sets f 0 (written (fileFor s (d .rows) (d .ids)))) (sized s (d .rows) (d .ids))) → Writes tests s size room (record { number = 0; start = 0; end = length s; count = need }) t v
   writes-with room f {need} {k} {v} small e q h m y =
       let n = need-is e q in
       let b = bounds in
@@ -211,9 +211,9 @@ module _ (s : List ℕ) (size : ℕ) {a : Answer} {t : List ℕ} (p : Permitted 
       let l : length t ≡ length (flat rs) + length zs = ap length (parts .table) ∙ length-append (flat rs) zs in
       let fit : Fit LONG (flat rs) = fit-all (flat rs) λ i g. subst (λ (z : ℕ). z < most LONG) (ap (λ (z : List ℕ). getD z i 0) (parts .table) ∙ List·getD-append (flat rs) zs 0 i g) (small i (omega (arith, l, g))) in
       let fills : Fills w (fileFor s rs ids) = record { sections = refl; counts = files.more {n = length s} (omega (arith, b .0)) (files.more short (files.more {n = length ids} (omega (arith, b .2, b .1)) files.none)); rows = fit; indexes = declared-few (made-declares its-makes .1) .1 short } in
-      subst (Writes true s size room (record { number = 0; start = 0; end = length s; count = need }) t) (sym y′)
-      (subst (λ (z : List ℕ). Writes true s size room (record { number = 0; start = 0; end = length s; count = need }) z (w ++ replicate (room - length w) 0)) (sym (parts .table))
-      (subst (λ (z : ℕ). Writes true s size room (record { number = 0; start = 0; end = length s; count = z }) (flat rs ++ replicate (size - width * length rs) 0) (w ++ replicate (room - length w) 0)) (sym n)
+      subst (Writes tests s size room (record { number = 0; start = 0; end = length s; count = need }) t) (sym y′)
+      (subst (λ (z : List ℕ). Writes tests s size room (record { number = 0; start = 0; end = length s; count = need }) z (w ++ replicate (room - length w) 0)) (sym (parts .table))
+      (subst (λ (z : ℕ). Writes tests s size room (record { number = 0; start = 0; end = length s; count = z }) (flat rs ++ replicate (size - width * length rs) 0) (w ++ replicate (room - length w) 0)) (sym n)
       (writer.writes its-makes its-fit (made-declares its-makes .1) fills (omega (arith, n, h)))))
 
 -- the sections of a table's rows

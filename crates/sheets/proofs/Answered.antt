@@ -22,6 +22,7 @@ use Rattle.grammar.specs.Subtrees.{none}
 use Rattle.grammar.specs.Answers.{accepted, refused, Answers, accepts}
 use Rattle.grammar.specs.Answers as grammar
 use Rattle.grammar.proofs.Demand.{one-answer, accepted-reading}
+use Rattle.grammar.proofs.Tests.{accepted-old}
 use Rattle.grammar.proofs.Subtrees.{rows-in, rows-in-count, write-trees, tree-last}
 use Rattle.answers.specs.Source.{source}
 use Rattle.answers.specs.Demands.{rowsOf}
@@ -211,17 +212,22 @@ module _ (tests : Bool) (s : List ℕ) (size room : ℕ) where
         ap (λ (f : File). written f ++ replicate (room - length (written f)) 0) q,
       )
 
+-- the rows of a source by either grammar are its rows by the old one
+made-old : (tests : Bool) {s : List ℕ} {rs : List Row} → Makes tests s rs → Makes true s rs
+made-old true m = m
+made-old false {s} m = record { fine = m .fine; read = accepted-old (source s) true (length s) (m .read) }
+
 -- the writer's files are accepted, and an accepted file is one of them
 pub writer-checks : (tests : Bool) → WriterChecks tests
 writer-checks tests = record { ours = ours; back = back }
   where
-    its-file : {b : List ℕ} {s : List ℕ} {rs : List Row} {ids : List ℕ} {size : ℕ} {c : Checked} {t : List ℕ} → Fills b (fileFor s rs ids) → Makes tests s rs → Declares rs ids → Checks tests b size c t → 98304 ≤ roomFor size → c .number ≡ 0
-    its-file {b} {size = size} g m d x h = let few = made-few m in ap (λ (c : Checked). c .number) (one-check tests b size x (checks.accepts g m (omega (arith, few, h)) d) .0)
+    its-file : {b : List ℕ} {s : List ℕ} {rs : List Row} {ids : List ℕ} {size : ℕ} {c : Checked} {t : List ℕ} → Fills b (fileFor s rs ids) → Makes tests s rs → Declares rs ids → Checks true b size c t → 98304 ≤ roomFor size → c .number ≡ 0
+    its-file {b} {size = size} g m d x h = let few = made-few m in ap (λ (c : Checked). c .number) (one-check true b size x (checks.accepts g (made-old tests m) (omega (arith, few, h)) d) .0)
 
-    ours : {s : List ℕ} {size room size′ : ℕ} {a : Answer} {c : Checked} {t file t′ : List ℕ} → Writes tests s size room a t file → a .number ≡ 0 → Checks tests (take (a .count) file) size′ c t′ → 98304 ≤ roomFor size′ → c .number ≡ 0
+    ours : {s : List ℕ} {size room size′ : ℕ} {a : Answer} {c : Checked} {t file t′ : List ℕ} → Writes tests s size room a t file → a .number ≡ 0 → Checks true (take (a .count) file) size′ c t′ → 98304 ≤ roomFor size′ → c .number ≡ 0
     ours (writer.refuses p n) q x h = absurd (n q)
     ours (writer.over m l d k) q x h = absurd (omega (arith, q))
-    ours {s} {room = room} {size′ = size′} {c = c} {t′ = t′} (writer.writes {rs = rs} {ids = ids} m l d g k) q x h = its-file g m d (subst (λ (b : List ℕ). Checks tests b size′ c t′) (take-at (written (fileFor s rs ids)) (replicate (room - sized s rs ids) 0) (sized s rs ids) refl) x) h
+    ours {s} {room = room} {size′ = size′} {c = c} {t′ = t′} (writer.writes {rs = rs} {ids = ids} m l d g k) q x h = its-file g m d (subst (λ (b : List ℕ). Checks true b size′ c t′) (take-at (written (fileFor s rs ids)) (replicate (room - sized s rs ids) 0) (sized s rs ids) refl) x) h
 
     back : {b : List ℕ} {size : ℕ} {c : Checked} {t : List ℕ} → Checks tests b size c t → c .number ≡ 0 → (s : List ℕ) × ((size′ room : ℕ) (a : Answer) (t′ file : List ℕ) → Writes tests s size′ room a t′ file → c .count ≤ size′ / width → length b ≤ room → (a .number ≡ 0) × (file ≡ b ++ replicate (room - length b) 0))
     back {b} {size} {c} x q =

@@ -1,14 +1,16 @@
--- Worked files: the decisions T1 to T4 (docs/DECISIONS.md) as answers, so that 17, 18 and 19 are no other numbers. By `one-check` no other answer is permitted.
+-- Worked files: the decisions T1 to T4 and V2 (docs/DECISIONS.md) as answers, so that 17, 18 and 19 are no other numbers, and tests are counted by kind 42. By `one-check` no other answer is permitted.
 use mathlib.Core.Path.{refl}
 use mathlib.Core.List.{List, [], _∷_}
-use mathlib.Core.Bool.{true}
+use mathlib.Core.Bool.{Bool, true, _&&_}
 use Prim.Native.Nat.{ℕ, _<_}
 use native.Mathlib.Omega.{arith}
+use lib.Dec.{T, ltb, ltb→lt}
 use lib.ListN.{replicate}
 use Rattle.chars.specs.Texts.{bytes as text}
 use Rattle.grammar.specs.Rows.{Row, flat}
 use Rattle.grammar.specs.Subtrees.{Trees}
 use Rattle.grammar.specs.Compute.{answer}
+use Rattle.grammar.proofs.Bools.{and-l, and-r}
 use Rattle.grammar.proofs.Computed.{answer-means}
 use Rattle.answers.specs.Source.{source}
 use Rattle.answers.specs.Compute.{outcome}
@@ -75,3 +77,47 @@ smallest = (_, checks.accepts (record { sections = refl; counts = fit SHORT 0 1 
 pub source-first : Refused (written (record { source = text "const"; rows = []; indexes = [] })) 11 5 5
 unfolding lexer values reader outcome
 source-first = checks.refuses (record { sections = refl; counts = fit SHORT 5 0 0 (omega arith) (omega arith) (omega arith); rows = none; indexes = none }) (outcome-means (text "const") 49 50 true true refl) (λ e. omega (arith, e))
+
+-- C-22, V2: the file of `test t{}`, whose third row is a test
+abbrev plain : ℕ → ℕ → ℕ → ℕ → ℕ → Row
+plain kind start end children size = record { kind = kind; start = start; end = end; children = children; value = 0; detail = 0; size = size }
+
+abbrev name : Row
+name = plain 1 5 6 0 1
+
+abbrev block : Row
+block = plain 35 6 8 0 1
+
+abbrev test : Row
+test = plain 42 0 8 2 3
+
+abbrev tree : Row
+tree = plain 43 0 8 1 4
+
+test-made : Makes true (text "test t{}") (name ∷ block ∷ test ∷ tree ∷ [])
+unfolding lexer values reader answer
+test-made = record { fine = refl; read = answer-means (source (text "test t{}")) true true 8 200 refl }
+
+test-declared : Declares (name ∷ block ∷ test ∷ tree ∷ []) (2 ∷ [])
+test-declared = record {
+  below = name ∷ block ∷ test ∷ [];
+  top = tree;
+  children = test ∷ [];
+  last = refl;
+  kind = refl;
+  trees = Trees.more test Trees.none (Trees.more block (Trees.more name Trees.none Trees.none refl refl refl refl) Trees.none refl refl refl refl) refl refl refl refl;
+  count = refl;
+  named = refl;
+}
+
+abbrev small : List ℕ → Bool
+small [] = true
+small (n ∷ ns) = ltb n 256 && small ns
+
+small-fit : (ns : List ℕ) → T (small ns) → Fit LONG ns
+small-fit [] h = none
+small-fit (n ∷ ns) h = let k = ltb→lt n 256 (and-l (ltb n 256) (small ns) h) in more {n = n} (omega (arith, k)) (small-fit ns (and-r (ltb n 256) (small ns) h))
+
+pub one-test : (t : List ℕ) × Checks true (written (record { source = text "test t{}"; rows = name ∷ block ∷ test ∷ tree ∷ []; indexes = 2 ∷ [] })) lent (checked 0 0 248 4 1) t
+unfolding text bytes words written
+one-test = (_, checks.accepts (record { sections = refl; counts = fit SHORT 8 4 1 (omega arith) (omega arith) (omega arith); rows = small-fit (flat (name ∷ block ∷ test ∷ tree ∷ [])) tt; indexes = more (let k : 2 < most SHORT = omega arith in k) none }) test-made (omega arith) test-declared)

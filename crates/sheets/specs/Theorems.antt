@@ -31,7 +31,8 @@ pub record AcceptedIff (tests : Bool) (b : List ℕ) (size : ℕ) : Type 0 where
   pub only : {c : Checked} {t : List ℕ} → Checks tests b size c t → c .number ≡ 0 → OfReading tests b
   pub all : {c : Checked} {t : List ℕ} → Checks tests b size c t → (o : OfReading tests b) → length (rowsOf true (o .source) (o .parts)) ≤ roomFor size → c .number ≡ 0
 
--- "A file that our own writer makes is always accepted", and an accepted file is one that the writer makes of its source.
+-- "A file that our own writer makes is always accepted": by the check, which keeps to the old grammar (C-22), whichever one the writer reads by. And a file that is accepted
+-- by a grammar is the one that a writer by that grammar makes of its source.
 pub record WriterChecks (tests : Bool) : Type 0 where
-  pub ours : {s : List ℕ} {size room size′ : ℕ} {a : Answer} {c : Checked} {t file t′ : List ℕ} → Writes tests s size room a t file → a .number ≡ 0 → Checks tests (take (a .count) file) size′ c t′ → 98304 ≤ roomFor size′ → c .number ≡ 0
+  pub ours : {s : List ℕ} {size room size′ : ℕ} {a : Answer} {c : Checked} {t file t′ : List ℕ} → Writes tests s size room a t file → a .number ≡ 0 → Checks true (take (a .count) file) size′ c t′ → 98304 ≤ roomFor size′ → c .number ≡ 0
   pub back : {b : List ℕ} {size : ℕ} {c : Checked} {t : List ℕ} → Checks tests b size c t → c .number ≡ 0 → (s : List ℕ) × ((size′ room : ℕ) (a : Answer) (t′ file : List ℕ) → Writes tests s size′ room a t′ file → c .count ≤ size′ / width → length b ≤ room → (a .number ≡ 0) × (file ≡ b ++ replicate (room - length b) 0))

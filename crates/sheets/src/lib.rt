@@ -1,7 +1,7 @@
 // Tables from other tools: a file of a source, its rows and the rows of its declarations by index; checked, and written.
 ghost use mathlib.Core.Path.{_≡_};
 ghost use mathlib.Core.List.{List, _++_};
-ghost use mathlib.Core.Bool.{true, _&&_};
+ghost use mathlib.Core.Bool.{true, false, _&&_};
 ghost use mathlib.Core.Logic.{_⊎_};
 ghost use Prim.Native.Nat.{ℕ, _+_, _*_, _≤_, _<_};
 ghost use lib.Dec.{ltb, eqb};
@@ -243,8 +243,8 @@ fn refused(table: &mut [u64], a: Answer) -> Checked
     }
 }
 
-// The answer to a file: accepted exactly when its rows are those that (a) makes for its source and its indexes name the declarations in order. The
-// rows are then left in the table, as (a) would leave them. The table has room for one number more than they have.
+// The answer to a file: accepted exactly when its rows are those that our reader makes for its source, by the old grammar (C-22), and its indexes name the
+// declarations in order. The rows are then left in the table, as (a) would leave them. The table has room for one number more than they have.
 pub fn check(file: &[u8], table: &mut [u64]) -> Checked
     ensures { λ c. ⌜ Checks true (now (file .entry)) (length (now (table .entry))) c (now (table .exit)) ⌝ }
 {
@@ -342,9 +342,9 @@ fn put_sections(s: &[u8], table: &[u64], rows: usize, indexes: usize, file: &mut
     clear(file, behind + SHORT + indexes * SHORT);
 }
 
-// The file of a source, in lent bytes; its rows in a lent table, as (a) leaves them. 10 says how many rows are needed, then how many bytes.
+// The file of a source, by the new grammar (C-22), in lent bytes; its rows in a lent table, as (a) leaves them. 10 says how many rows are needed, then how many bytes.
 pub fn write(s: &[u8], table: &mut [u64], file: &mut [u8]) -> Answer
-    ensures { λ a. ⌜ Writes true (now (s .entry)) (length (now (table .entry))) (length (now (file .entry))) a (now (table .exit)) (now (file .exit)) ⌝ }
+    ensures { λ a. ⌜ Writes false (now (s .entry)) (length (now (table .entry))) (length (now (file .entry))) a (now (table .exit)) (now (file .exit)) ⌝ }
 {
     let a = entries::tree(s, table);
     if a.number != refusal::NONE {

@@ -4,7 +4,7 @@ ghost use Rattle.rows.specs.Kinds as kinds;
 ghost use Rattle.grammar.specs.Words.{names, path-items, literals, four-words, assign-signs, compare-signs, sum-signs, product-signs};
 ghost use Rattle.grammar.specs.Grammar.{one-of};
 ghost use Rattle.grammar.specs.Rows.{detail-for};
-ghost use Rattle.promises.specs.Firsts.{levelOf, exprFirsts, typeFirsts, statementFirsts, declarationFirsts, postfixSigns, endsReturn, closingOf, signWords, signKind};
+ghost use Rattle.promises.specs.Firsts.{levelOf, exprFirsts, typeFirsts, statementFirsts, firstsBy, postfixSigns, endsReturn, closingOf, signWords, signKind};
 use rows::kind;
 use tokens::word;
 
@@ -180,13 +180,14 @@ pub fn can_begin_statement(word: u64) -> bool
     (word == word::IMPORT) | (word == word::LET) | can_begin_expr(word)
 }
 
-pub fn begins_declaration(word: u64) -> bool
-    ensures { λ r. ⌜ r ≡ one-of word declarationFirsts ⌝ }
+// `tests`: by the old grammar, in which `test` begins one too (C-22).
+pub fn begins_declaration(word: u64, tests: bool) -> bool
+    ensures { λ r. ⌜ r ≡ one-of word (firstsBy tests) ⌝ }
 {
     (word == word::CONST)
         | (word == word::FN)
         | (word == word::IMPORT)
-        | (word == word::TEST)
+        | ((word == word::TEST) & tests)
         | (word == word::FILTER)
         | (word == word::FILTERMAP)
 }

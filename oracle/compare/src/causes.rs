@@ -11,10 +11,11 @@ struct Seen {
 
 type Test = fn(&Seen) -> bool;
 
-const CAUSES: [(&str, Test); 15] = [
+const CAUSES: [(&str, Test); 16] = [
     ("left out: length, bytes of 128, a shebang", |s| s.oracle_says(&[1, 2, 3])),
     ("limits", |s| s.oracle_says(&[9])),
     ("the token list has no f-strings", |s| s.oracle_says(&[5])),
+    ("`test` is no declaration", Seen::at_test),
     ("an address with a dotted end", Seen::dotted_address),
     ("place of 7", |s| s.both_say(7)),
     ("place of 8", |s| s.both_say(8)),
@@ -40,6 +41,12 @@ impl Seen {
 
     fn has(&self, texts: &[&str]) -> bool {
         texts.iter().any(|text| self.tight.contains(text))
+    }
+
+    /// The oracle refuses the word itself.
+    fn at_test(&self) -> bool {
+        let place = self.oracle.strip_prefix("refused 6 ").and_then(|place| place.split_whitespace().next()?.parse().ok());
+        place.and_then(|start: usize| self.source.get(start..)).is_some_and(|text| text.starts_with("test"))
     }
 
     /// Behind two colons with hex digits between them alone, or such colons: digits, and three times a period with digits.

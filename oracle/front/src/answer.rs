@@ -65,12 +65,14 @@ fn time_trees(whole: WholeSource, arguments: &[String]) -> std::io::Result<()> {
 fn answer(whole: WholeSource, case: &Case<'_>, out: &mut String) {
     let length = case.source.len();
     let rows = |source: &[u8]| whole(source).and_then(tree);
+    let old_rows = |source: &[u8]| whole(source).and_then(old_tree);
     let done = catch_unwind(AssertUnwindSafe(|| match case.entry {
         b'e' => write_bytes(out, decoded(whole, case.source).as_deref().map_err(|r| *r), case.room),
         b'f' => write_pair(out, float(whole, case.source)),
         b'k' => write_constant(out, constant(whole, case)),
-        b't' => write_pair(out, files::check(case.source, rows).map(|checked| (checked.rows, checked.tests))),
+        b't' => write_pair(out, files::check(case.source, old_rows).map(|checked| (checked.rows, checked.tests))),
         b'w' => write_bytes(out, files::write(case.source, rows).as_deref().map_err(|r| *r), case.room),
+        b'o' => write_bytes(out, files::write(case.source, old_rows).as_deref().map_err(|r| *r), case.room),
         b'c' => write_rows(out, &found(whole(case.source), tokens), case.room),
         b'b' => write_rows(out, &found(whole(case.source), expression), case.room),
         _ => write_rows(out, &found(whole(case.source), tree), case.room),
@@ -119,6 +121,13 @@ fn expression(source: &str) -> Result<Vec<Row>, Refusal> {
 pub fn tree(source: &str) -> Result<Vec<Row>, Refusal> {
     let mut spans = Spans::default();
     let (tree, _) = Parser::parse(0, &mut spans, source).map_err(|e| refusal(source, &e))?;
+    Ok(rows::tree(&spans, source, &tree))
+}
+
+/// The same by the old grammar, in which `test` is a declaration (C-22).
+pub fn old_tree(source: &str) -> Result<Vec<Row>, Refusal> {
+    let mut spans = Spans::default();
+    let (tree, _) = crate::parse_old(&mut spans, source).map_err(|e| refusal(source, &e))?;
     Ok(rows::tree(&spans, source, &tree))
 }
 

@@ -9,6 +9,8 @@ pub mod files;
 mod parser;
 mod rows;
 
+use ast::SyntaxTree;
+use parser::{Extras, ParseResult, Parser, meta::Spans};
 use protocol::{Refusal, Row};
 
 const LONGEST: usize = 65_535;
@@ -34,9 +36,22 @@ pub fn whole(source: &[u8]) -> Result<&str, Refusal> {
     Ok(text)
 }
 
-/// (a): the rows of a source's tree.
+/// C-22: "for every file, check and print keep to the old grammar".
+fn parse_old(spans: &mut Spans, source: &str) -> ParseResult<(SyntaxTree, Extras)> {
+    Parser::parse_old(0, spans, source)
+}
+
+/// (a): the rows of a source's tree; and its rows by the old grammar.
 pub fn tree(source: &[u8]) -> Result<Vec<Row>, Refusal> {
-    let read = whole(source).and_then(answer::tree);
+    read_by(source, answer::tree)
+}
+
+pub fn old_tree(source: &[u8]) -> Result<Vec<Row>, Refusal> {
+    read_by(source, answer::old_tree)
+}
+
+fn read_by(source: &[u8], by: fn(&str) -> Result<Vec<Row>, Refusal>) -> Result<Vec<Row>, Refusal> {
+    let read = whole(source).and_then(by);
     // SAFETY: the tree is gone, and rows hold no names.
     unsafe { symbol_table::forget_names() };
     read

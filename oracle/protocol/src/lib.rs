@@ -1,7 +1,7 @@
 //! The one protocol that the oracle, the full commit and our own code speak.
 //!
 //! Cases follow one another on standard input: a line `ENTRY LENGTH` or `ENTRY LENGTH ROOM`, then LENGTH bytes at
-//! once, then the next line. ENTRY is `a`, `b`, `c`, `e`, `f`, `k`, `n`, `t` or `w`; ROOM counts rows, tokens or bytes, enough if left out, is
+//! once, then the next line. ENTRY is `a`, `b`, `c`, `e`, `f`, `k`, `n`, `o`, `t` or `w`; ROOM counts rows, tokens or bytes, enough if left out, is
 //! the position for `n`, and for `k` it is the constant's number, behind which the rooms of its list and of the rows may stand.
 //! Each answer ends in an empty line. See ../README.md.
 
@@ -196,6 +196,7 @@ fn parse_header(line: &[u8]) -> Option<(u8, u64, [u64; 3])> {
         "f" => b'f',
         "k" => b'k',
         "n" => b'n',
+        "o" => b'o',
         "t" => b't',
         "w" => b'w',
         _ => return None,

@@ -15,15 +15,21 @@ use std::collections::BTreeMap;
 
 const NO_ROOM: u64 = 10;
 
-/// A source and what the oracle reads in it, so that it is read once for all files that hold it.
+/// A source and what the oracle reads in it, so that it is read once for all files that hold it: by the old grammar, as files are, and by the new
+/// one, as the writer reads (C-22).
 struct Known<'a> {
     source: &'a [u8],
-    read: Result<Vec<Row>, Refusal>,
+    old: Result<Vec<Row>, Refusal>,
+    new: Result<Vec<Row>, Refusal>,
 }
 
-impl Known<'_> {
+impl<'a> Known<'a> {
+    fn of(source: &'a [u8]) -> Self {
+        Known { source, old: front::old_tree(source), new: front::tree(source) }
+    }
+
     fn read(&self, source: &[u8]) -> Result<Vec<Row>, Refusal> {
-        if source == self.source { self.read.clone() } else { front::tree(source) }
+        if source == self.source { self.old.clone() } else { front::old_tree(source) }
     }
 }
 
@@ -93,8 +99,8 @@ impl Tally {
 
     /// The writer, with a table of so many numbers and a buffer of so many bytes.
     fn write(&mut self, known: &Known<'_>, size: usize, bytes: usize) {
-        let file = files::write(known.source, |source| known.read(source));
-        let rows = known.read.as_ref().map_or(0, Vec::len);
+        let file = files::write(known.source, |_| known.new.clone());
+        let rows = known.new.as_ref().map_or(0, Vec::len);
         let (want, left) = match file {
             Err(refusal) => ([refusal.number, refusal.start, refusal.end, 0], vec![]),
             Ok(_) if rows > size / WIDTH => ([NO_ROOM, 0, 0, rows as u64], vec![]),
@@ -103,7 +109,7 @@ impl Tally {
         };
         let (got, table, mut out) = ours::write(known.source, size, bytes);
         *self.writes.entry(want[0]).or_default() += 1;
-        let kept = if want[0] == 0 { known.read.clone().unwrap_or_default() } else { vec![] };
+        let kept = if want[0] == 0 { known.new.clone().unwrap_or_default() } else { vec![] };
         if got != want {
             self.different(format!("write in {size} numbers, {bytes} bytes"), known.source, &got, &want);
         } else if table != filled(&kept, size) {
@@ -164,15 +170,15 @@ impl Tally {
     }
 
     fn source(&mut self, r: &mut Random, source: &[u8]) {
-        let known = Known { source, read: front::tree(source) };
-        match &known.read {
+        let known = Known::of(source);
+        match &known.old {
             Ok(rows) => self.accepted(r, &known, rows),
             Err(_) => self.refused(r, &known),
         }
     }
 
     fn edges(&mut self) {
-        let known = Known { source: b"", read: front::tree(b"") };
+        let known = Known::of(b"");
         for file in changes::edges() {
             for size in [0, 1, WIDTH - 1, WIDTH, WIDTH + 1, 2 * WIDTH + 3] {
                 self.check(OTHERS, &file, size, &known);

@@ -12,7 +12,7 @@ refuse-requires : tie.Need-refuse-requires
 refuse-requires c κs = search needs
 
 returns : tie.Need-returns
-returns c = finished-long false _ _ (c .before .if1 .taken) (c .refuse .ensures)
+returns c = finished-long false false _ _ (c .before .if1 .taken) (c .refuse .ensures)
 
 new-requires : tie.Need-new-requires
 new-requires c κs = search needs
@@ -37,7 +37,7 @@ same-length c = search needs
 
 returns-2 : tie.Need-returns-2
 unfolding counts
-returns-2 c = expression-refused _ _ (c .before .before .before .before .before .before .before .before .before .if1 .left) (c .before .before .before .before .before .before .before .look .ensures ∙ ap (λ n. hereAt (c .before .before .before .before .before .before .before .before .before .before .before .before .args .s .now) n 0) (c .before .before .before .before .before .before .before .before .new .ensures)) (limited (c .before .before .before .before .before .all .ensures) (c .before .before .before .before .expr .ensures)) (c .enum-told .given .1)
+returns-2 c = expression-refused false _ _ (c .before .before .before .before .before .before .before .before .before .if1 .left) (c .before .before .before .before .before .before .before .look .ensures ∙ ap (λ n. hereAt (c .before .before .before .before .before .before .before .before .before .before .before .before .args .s .now) n 0) (c .before .before .before .before .before .before .before .before .new .ensures)) (limited (c .before .before .before .before .before .all .ensures) (c .before .before .before .before .expr .ensures)) (c .enum-told .given .1)
 
 word-requires : tie.Need-word-requires
 word-requires c κs = search needs
@@ -50,14 +50,14 @@ same-length-2 c = search needs
 
 returns-3 : tie.Need-returns-3
 unfolding counts
-returns-3 c = expression-left _ _ (c .before .before .before .before .before .before .before .before .before .before .before .before .before .if1 .left) (c .before .before .before .before .before .before .before .before .before .before .before .look .ensures ∙ ap (λ n. hereAt (c .before .before .before .before .before .before .before .before .before .before .before .before .before .before .before .before .args .s .now) n 0) (c .before .before .before .before .before .before .before .before .before .before .before .before .new .ensures)) (limited (c .before .before .before .before .before .before .before .before .before .all .ensures) (c .before .before .before .before .before .before .before .before .expr .ensures)) (c .before .before .before .before .r .given .1) (λ e. c .before .if2 .taken (c .before .before .word .ensures ∙ e)) (c .unusable .ensures)
+returns-3 c = expression-left false _ _ (c .before .before .before .before .before .before .before .before .before .before .before .before .before .if1 .left) (c .before .before .before .before .before .before .before .before .before .before .before .look .ensures ∙ ap (λ n. hereAt (c .before .before .before .before .before .before .before .before .before .before .before .before .before .before .before .before .args .s .now) n 0) (c .before .before .before .before .before .before .before .before .before .before .before .before .new .ensures)) (limited (c .before .before .before .before .before .before .before .before .before .all .ensures) (c .before .before .before .before .before .before .before .before .expr .ensures)) (c .before .before .before .before .r .given .1) (λ e. c .before .if2 .taken (c .before .before .word .ensures ∙ e)) (c .unusable .ensures)
 
 same-length-3 : tie.Need-same-length-3
 same-length-3 c = search needs
 
 returns-4 : tie.Need-returns-4
 unfolding counts
-returns-4 c = expression-read _ _ (c .before .before .before .before .before .before .before .before .before .before .before .before .if1 .left) (c .before .before .before .before .before .before .before .before .before .before .look .ensures ∙ ap (λ n. hereAt (c .before .before .before .before .before .before .before .before .before .before .before .before .before .before .before .args .s .now) n 0) (c .before .before .before .before .before .before .before .before .before .before .before .new .ensures)) (limited (c .before .before .before .before .before .before .before .before .all .ensures) (c .before .before .before .before .before .before .before .expr .ensures)) (c .before .before .before .r .given .1) (sym (c .before .word .ensures) ∙ c .if2 .left)
+returns-4 c = expression-read false _ _ (c .before .before .before .before .before .before .before .before .before .before .before .before .if1 .left) (c .before .before .before .before .before .before .before .before .before .before .look .ensures ∙ ap (λ n. hereAt (c .before .before .before .before .before .before .before .before .before .before .before .before .before .before .before .args .s .now) n 0) (c .before .before .before .before .before .before .before .before .before .before .before .new .ensures)) (limited (c .before .before .before .before .before .before .before .before .all .ensures) (c .before .before .before .before .before .before .before .expr .ensures)) (c .before .before .before .r .given .1) (sym (c .before .word .ensures) ∙ c .if2 .left)
 
 pub expression-spec : {M : Type 1} → statement M
 expression-spec =

@@ -10,21 +10,21 @@ use Rattle.promises.proofs.Wholes.{Declares, finished-kept, finished-long, tree
 use borrow.Author.Needs.{needs}
 use mathlib.Core.Path.{sym, ap, _∙_}
 use Rattle.grammar.specs.Grammar.{one-of}
-use Rattle.promises.specs.Firsts.{declarationFirsts}
+use Rattle.promises.specs.Firsts.{firstsBy}
 use Rattle.reader.proofs.tree.Statement.{statement}
 use Rattle.reader.proofs.tree.Tie as tie
 
 abbrev Inv-loop : tie.InvT-loop
-Inv-loop s table₀ limits here₀ children₀ table here children = Declares s children₀ here₀ table₀ children here table
+Inv-loop s table₀ tests limits here₀ children₀ table here children = Declares tests s children₀ here₀ table₀ children here table
 
 abbrev μ-loop : tie.MeasureT-loop
-μ-loop s table₀ limits here₀ children₀ table here children = 70000 - nextOf here
+μ-loop s table₀ tests limits here₀ children₀ table here children = 70000 - nextOf here
 
 refuse-requires : tie.Need-refuse-requires Inv-loop μ-loop
 refuse-requires c κs = search needs
 
 returns : tie.Need-returns Inv-loop μ-loop
-returns c = finished-long true _ _ (c .before .if1 .taken) (c .refuse .ensures)
+returns c = finished-long _ true _ _ (c .before .if1 .taken) (c .refuse .ensures)
 
 all-requires : tie.Need-all-requires Inv-loop μ-loop
 all-requires c κs = search needs
@@ -45,7 +45,7 @@ begins-declaration-requires : tie.Need-begins-declaration-requires Inv-loop μ-l
 begins-declaration-requires c κs = search needs
 
 declaration-requires : tie.Need-declaration-requires Inv-loop μ-loop
-declaration-requires c κs = (c .before .before .before .before .loop .inv _ _ (tree-begins _ _ (c .before .before .before .before .before .before .before .before .if1 .left) (c .before .before .before .before .before .look .ensures ∙ ap (λ n. hereAt (c .before .before .before .before .before .before .before .before .before .before .before .args .s .now) n 0) (c .before .before .before .before .before .before .new .ensures)))) .going .stands
+declaration-requires c κs = (c .before .before .before .before .loop .inv _ _ (tree-begins _ _ _ (c .before .before .before .before .before .before .before .before .if1 .left) (c .before .before .before .before .before .look .ensures ∙ ap (λ n. hereAt (c .before .before .before .before .before .before .before .before .before .before .before .args .s .now) n 0) (c .before .before .before .before .before .before .new .ensures)))) .going .stands
 
 enum-known-r : tie.Need-enum-known-r Inv-loop μ-loop
 enum-known-r c = search needs
@@ -55,21 +55,21 @@ enum-told c = search needs
 
 same-length : tie.Need-same-length Inv-loop μ-loop
 unfolding counts
-same-length c = finished-kept (c .before .before .before .before .before .before .before .before .before .before .before .before .before .if1 .left) (tree-refused _ _ (c .before .before .before .before .before .before .before .before .before .before .before .before .before .if1 .left) (c .before .before .before .before .before .before .before .before .before .before .look .ensures ∙ ap (λ n. hereAt (c .before .before .before .before .before .before .before .before .before .before .before .before .before .before .before .before .args .s .now) n 0) (c .before .before .before .before .before .before .before .before .before .before .before .new .ensures)) (c .before .before .before .before .before .before .before .before .before .loop .inv _ _ (tree-begins _ _ (c .before .before .before .before .before .before .before .before .before .before .before .before .before .if1 .left) (c .before .before .before .before .before .before .before .before .before .before .look .ensures ∙ ap (λ n. hereAt (c .before .before .before .before .before .before .before .before .before .before .before .before .before .before .before .before .args .s .now) n 0) (c .before .before .before .before .before .before .before .before .before .before .before .new .ensures)))) (true-so (c .before .before .before .before .before .before .before .begins-declaration .ensures ∙ ap (λ w. one-of w declarationFirsts) (c .before .before .before .before .before .before .before .before .word .ensures)) (c .before .before .before .before .before .before .if2 .taken)) (limited (c .before .before .before .before .before .before .before .before .before .before .before .before .all .ensures) (c .before .before .before .before .declaration .ensures)) (c .enum-told .given .1))
+same-length c = finished-kept (c .before .before .before .before .before .before .before .before .before .before .before .before .before .if1 .left) (tree-refused _ _ _ (c .before .before .before .before .before .before .before .before .before .before .before .before .before .if1 .left) (c .before .before .before .before .before .before .before .before .before .before .look .ensures ∙ ap (λ n. hereAt (c .before .before .before .before .before .before .before .before .before .before .before .before .before .before .before .before .args .s .now) n 0) (c .before .before .before .before .before .before .before .before .before .before .before .new .ensures)) (c .before .before .before .before .before .before .before .before .before .loop .inv _ _ (tree-begins _ _ _ (c .before .before .before .before .before .before .before .before .before .before .before .before .before .if1 .left) (c .before .before .before .before .before .before .before .before .before .before .look .ensures ∙ ap (λ n. hereAt (c .before .before .before .before .before .before .before .before .before .before .before .before .before .before .before .before .args .s .now) n 0) (c .before .before .before .before .before .before .before .before .before .before .before .new .ensures)))) (true-so (c .before .before .before .before .before .before .before .begins-declaration .ensures ∙ ap (λ w. one-of w (firstsBy (c .before .before .before .before .before .before .before .before .before .before .before .before .before .before .before .before .args .tests))) (c .before .before .before .before .before .before .before .before .word .ensures)) (c .before .before .before .before .before .before .if2 .taken)) (limited (c .before .before .before .before .before .before .before .before .before .before .before .before .all .ensures) (c .before .before .before .before .declaration .ensures)) (c .enum-told .given .1))
 
 returns-2 : tie.Need-returns-2 Inv-loop μ-loop
 unfolding counts
-returns-2 c = tree-refused _ _ (c .before .before .before .before .before .before .before .before .before .before .before .before .before .if1 .left) (c .before .before .before .before .before .before .before .before .before .before .look .ensures ∙ ap (λ n. hereAt (c .before .before .before .before .before .before .before .before .before .before .before .before .before .before .before .before .args .s .now) n 0) (c .before .before .before .before .before .before .before .before .before .before .before .new .ensures)) (c .before .before .before .before .before .before .before .before .before .loop .inv _ _ (tree-begins _ _ (c .before .before .before .before .before .before .before .before .before .before .before .before .before .if1 .left) (c .before .before .before .before .before .before .before .before .before .before .look .ensures ∙ ap (λ n. hereAt (c .before .before .before .before .before .before .before .before .before .before .before .before .before .before .before .before .args .s .now) n 0) (c .before .before .before .before .before .before .before .before .before .before .before .new .ensures)))) (true-so (c .before .before .before .before .before .before .before .begins-declaration .ensures ∙ ap (λ w. one-of w declarationFirsts) (c .before .before .before .before .before .before .before .before .word .ensures)) (c .before .before .before .before .before .before .if2 .taken)) (limited (c .before .before .before .before .before .before .before .before .before .before .before .before .all .ensures) (c .before .before .before .before .declaration .ensures)) (c .enum-told .given .1)
+returns-2 c = tree-refused _ _ _ (c .before .before .before .before .before .before .before .before .before .before .before .before .before .if1 .left) (c .before .before .before .before .before .before .before .before .before .before .look .ensures ∙ ap (λ n. hereAt (c .before .before .before .before .before .before .before .before .before .before .before .before .before .before .before .before .args .s .now) n 0) (c .before .before .before .before .before .before .before .before .before .before .before .new .ensures)) (c .before .before .before .before .before .before .before .before .before .loop .inv _ _ (tree-begins _ _ _ (c .before .before .before .before .before .before .before .before .before .before .before .before .before .if1 .left) (c .before .before .before .before .before .before .before .before .before .before .look .ensures ∙ ap (λ n. hereAt (c .before .before .before .before .before .before .before .before .before .before .before .before .before .before .before .before .args .s .now) n 0) (c .before .before .before .before .before .before .before .before .before .before .before .new .ensures)))) (true-so (c .before .before .before .before .before .before .before .begins-declaration .ensures ∙ ap (λ w. one-of w (firstsBy (c .before .before .before .before .before .before .before .before .before .before .before .before .before .before .before .before .args .tests))) (c .before .before .before .before .before .before .before .before .word .ensures)) (c .before .before .before .before .before .before .if2 .taken)) (limited (c .before .before .before .before .before .before .before .before .before .before .before .before .all .ensures) (c .before .before .before .before .declaration .ensures)) (c .enum-told .given .1)
 
 add-children : tie.Need-add-children Inv-loop μ-loop
-add-children c = omega (arith, tree-few _ _ (c .before .before .before .before .before .before .before .before .before .before .before .before .before .before .if1 .left) (c .before .before .before .before .before .before .before .before .before .before .before .look .ensures ∙ ap (λ n. hereAt (c .before .before .before .before .before .before .before .before .before .before .before .before .before .before .before .before .before .args .s .now) n 0) (c .before .before .before .before .before .before .before .before .before .before .before .before .new .ensures)) (c .before .before .before .before .before .before .before .before .before .before .loop .inv _ _ (tree-begins _ _ (c .before .before .before .before .before .before .before .before .before .before .before .before .before .before .if1 .left) (c .before .before .before .before .before .before .before .before .before .before .before .look .ensures ∙ ap (λ n. hereAt (c .before .before .before .before .before .before .before .before .before .before .before .before .before .before .before .before .before .args .s .now) n 0) (c .before .before .before .before .before .before .before .before .before .before .before .before .new .ensures)))))
+add-children c = omega (arith, tree-few _ _ _ (c .before .before .before .before .before .before .before .before .before .before .before .before .before .before .if1 .left) (c .before .before .before .before .before .before .before .before .before .before .before .look .ensures ∙ ap (λ n. hereAt (c .before .before .before .before .before .before .before .before .before .before .before .before .before .before .before .before .before .args .s .now) n 0) (c .before .before .before .before .before .before .before .before .before .before .before .before .new .ensures)) (c .before .before .before .before .before .before .before .before .before .before .loop .inv _ _ (tree-begins _ _ _ (c .before .before .before .before .before .before .before .before .before .before .before .before .before .before .if1 .left) (c .before .before .before .before .before .before .before .before .before .before .before .look .ensures ∙ ap (λ n. hereAt (c .before .before .before .before .before .before .before .before .before .before .before .before .before .before .before .before .before .args .s .now) n 0) (c .before .before .before .before .before .before .before .before .before .before .before .before .new .ensures)))))
 
 loop-less : tie.Need-loop-less Inv-loop μ-loop
-loop-less c = omega (arith, tree-few _ _ (c .before .before .before .before .before .before .before .before .before .before .before .before .before .before .if1 .left) (c .before .before .before .before .before .before .before .before .before .before .before .look .ensures ∙ ap (λ n. hereAt (c .before .before .before .before .before .before .before .before .before .before .before .before .before .before .before .before .before .args .s .now) n 0) (c .before .before .before .before .before .before .before .before .before .before .before .before .new .ensures)) (c .before .before .before .before .before .before .before .before .before .before .loop .inv _ _ (tree-begins _ _ (c .before .before .before .before .before .before .before .before .before .before .before .before .before .before .if1 .left) (c .before .before .before .before .before .before .before .before .before .before .before .look .ensures ∙ ap (λ n. hereAt (c .before .before .before .before .before .before .before .before .before .before .before .before .before .before .before .before .before .args .s .now) n 0) (c .before .before .before .before .before .before .before .before .before .before .before .before .new .ensures)))), further (c .before .before .before .before .before .declaration .ensures) (c .before .r .given .1) .next)
+loop-less c = omega (arith, tree-few _ _ _ (c .before .before .before .before .before .before .before .before .before .before .before .before .before .before .if1 .left) (c .before .before .before .before .before .before .before .before .before .before .before .look .ensures ∙ ap (λ n. hereAt (c .before .before .before .before .before .before .before .before .before .before .before .before .before .before .before .before .before .args .s .now) n 0) (c .before .before .before .before .before .before .before .before .before .before .before .before .new .ensures)) (c .before .before .before .before .before .before .before .before .before .before .loop .inv _ _ (tree-begins _ _ _ (c .before .before .before .before .before .before .before .before .before .before .before .before .before .before .if1 .left) (c .before .before .before .before .before .before .before .before .before .before .before .look .ensures ∙ ap (λ n. hereAt (c .before .before .before .before .before .before .before .before .before .before .before .before .before .before .before .before .before .args .s .now) n 0) (c .before .before .before .before .before .before .before .before .before .before .before .before .new .ensures)))), further (c .before .before .before .before .before .declaration .ensures) (c .before .r .given .1) .next)
 
 loop-again : tie.Need-loop-again Inv-loop μ-loop
 unfolding counts
-loop-again c = λ i t b. tree-more (c .before .before .before .before .before .before .before .before .before .before .loop .inv i t b) (true-so (c .before .before .before .before .before .before .before .before .begins-declaration .ensures ∙ ap (λ w. one-of w declarationFirsts) (c .before .before .before .before .before .before .before .before .before .word .ensures)) (c .before .before .before .before .before .before .before .if2 .taken)) (limited (c .before .before .before .before .before .before .before .before .before .before .before .before .before .all .ensures) (c .before .before .before .before .before .declaration .ensures)) (c .before .r .given .1)
+loop-again c = λ i t b. tree-more (c .before .before .before .before .before .before .before .before .before .before .loop .inv i t b) (true-so (c .before .before .before .before .before .before .before .before .begins-declaration .ensures ∙ ap (λ w. one-of w (firstsBy (c .before .before .before .before .before .before .before .before .before .before .before .before .before .before .before .before .before .args .tests))) (c .before .before .before .before .before .before .before .before .before .word .ensures)) (c .before .before .before .before .before .before .before .if2 .taken)) (limited (c .before .before .before .before .before .before .before .before .before .before .before .before .before .all .ensures) (c .before .before .before .before .before .declaration .ensures)) (c .before .r .given .1)
 
 word-requires-2 : tie.Need-word-requires-2 Inv-loop μ-loop
 word-requires-2 c κs = search needs
@@ -78,10 +78,10 @@ unusable-requires : tie.Need-unusable-requires Inv-loop μ-loop
 unusable-requires c κs = search needs
 
 same-length-2 : tie.Need-same-length-2 Inv-loop μ-loop
-same-length-2 c = finished-kept (c .before .before .before .before .before .before .before .before .before .before .if1 .left) (tree-left _ _ (c .before .before .before .before .before .before .before .before .before .before .if1 .left) (c .before .before .before .before .before .before .before .look .ensures ∙ ap (λ n. hereAt (c .before .before .before .before .before .before .before .before .before .before .before .before .before .args .s .now) n 0) (c .before .before .before .before .before .before .before .before .new .ensures)) (c .before .before .before .before .before .before .loop .inv _ _ (tree-begins _ _ (c .before .before .before .before .before .before .before .before .before .before .if1 .left) (c .before .before .before .before .before .before .before .look .ensures ∙ ap (λ n. hereAt (c .before .before .before .before .before .before .before .before .before .before .before .before .before .args .s .now) n 0) (c .before .before .before .before .before .before .before .before .new .ensures)))) (false-so (c .before .before .before .before .begins-declaration .ensures ∙ ap (λ w. one-of w declarationFirsts) (c .before .before .before .before .before .word .ensures)) (c .before .before .before .if2 .left)) (λ e. c .before .if3 .taken (c .before .before .word2 .ensures ∙ e)) (c .unusable .ensures))
+same-length-2 c = finished-kept (c .before .before .before .before .before .before .before .before .before .before .if1 .left) (tree-left _ _ _ (c .before .before .before .before .before .before .before .before .before .before .if1 .left) (c .before .before .before .before .before .before .before .look .ensures ∙ ap (λ n. hereAt (c .before .before .before .before .before .before .before .before .before .before .before .before .before .args .s .now) n 0) (c .before .before .before .before .before .before .before .before .new .ensures)) (c .before .before .before .before .before .before .loop .inv _ _ (tree-begins _ _ _ (c .before .before .before .before .before .before .before .before .before .before .if1 .left) (c .before .before .before .before .before .before .before .look .ensures ∙ ap (λ n. hereAt (c .before .before .before .before .before .before .before .before .before .before .before .before .before .args .s .now) n 0) (c .before .before .before .before .before .before .before .before .new .ensures)))) (false-so (c .before .before .before .before .begins-declaration .ensures ∙ ap (λ w. one-of w (firstsBy (c .before .before .before .before .before .before .before .before .before .before .before .before .before .args .tests))) (c .before .before .before .before .before .word .ensures)) (c .before .before .before .if2 .left)) (λ e. c .before .if3 .taken (c .before .before .word2 .ensures ∙ e)) (c .unusable .ensures))
 
 returns-3 : tie.Need-returns-3 Inv-loop μ-loop
-returns-3 c = tree-left _ _ (c .before .before .before .before .before .before .before .before .before .before .if1 .left) (c .before .before .before .before .before .before .before .look .ensures ∙ ap (λ n. hereAt (c .before .before .before .before .before .before .before .before .before .before .before .before .before .args .s .now) n 0) (c .before .before .before .before .before .before .before .before .new .ensures)) (c .before .before .before .before .before .before .loop .inv _ _ (tree-begins _ _ (c .before .before .before .before .before .before .before .before .before .before .if1 .left) (c .before .before .before .before .before .before .before .look .ensures ∙ ap (λ n. hereAt (c .before .before .before .before .before .before .before .before .before .before .before .before .before .args .s .now) n 0) (c .before .before .before .before .before .before .before .before .new .ensures)))) (false-so (c .before .before .before .before .begins-declaration .ensures ∙ ap (λ w. one-of w declarationFirsts) (c .before .before .before .before .before .word .ensures)) (c .before .before .before .if2 .left)) (λ e. c .before .if3 .taken (c .before .before .word2 .ensures ∙ e)) (c .unusable .ensures)
+returns-3 c = tree-left _ _ _ (c .before .before .before .before .before .before .before .before .before .before .if1 .left) (c .before .before .before .before .before .before .before .look .ensures ∙ ap (λ n. hereAt (c .before .before .before .before .before .before .before .before .before .before .before .before .before .args .s .now) n 0) (c .before .before .before .before .before .before .before .before .new .ensures)) (c .before .before .before .before .before .before .loop .inv _ _ (tree-begins _ _ _ (c .before .before .before .before .before .before .before .before .before .before .if1 .left) (c .before .before .before .before .before .before .before .look .ensures ∙ ap (λ n. hereAt (c .before .before .before .before .before .before .before .before .before .before .before .before .before .args .s .now) n 0) (c .before .before .before .before .before .before .before .before .new .ensures)))) (false-so (c .before .before .before .before .begins-declaration .ensures ∙ ap (λ w. one-of w (firstsBy (c .before .before .before .before .before .before .before .before .before .before .before .before .before .args .tests))) (c .before .before .before .before .before .word .ensures)) (c .before .before .before .if2 .left)) (λ e. c .before .if3 .taken (c .before .before .word2 .ensures ∙ e)) (c .unusable .ensures)
 
 plain-row-requires : tie.Need-plain-row-requires Inv-loop μ-loop
 plain-row-requires c κs = search needs
@@ -90,10 +90,10 @@ finish-requires : tie.Need-finish-requires Inv-loop μ-loop
 finish-requires c κs = search needs
 
 same-length-3 : tie.Need-same-length-3 Inv-loop μ-loop
-same-length-3 c = finished-kept (c .before .before .before .before .before .before .before .before .before .before .before .before .before .before .if1 .left) (tree-read _ _ (c .before .before .before .before .before .before .before .before .before .before .before .before .before .before .if1 .left) (c .before .before .before .before .before .before .before .before .before .before .before .look .ensures ∙ ap (λ n. hereAt (c .before .before .before .before .before .before .before .before .before .before .before .before .before .before .before .before .before .args .s .now) n 0) (c .before .before .before .before .before .before .before .before .before .before .before .before .new .ensures)) (c .before .before .before .before .before .before .before .before .before .before .loop .inv _ _ (tree-begins _ _ (c .before .before .before .before .before .before .before .before .before .before .before .before .before .before .if1 .left) (c .before .before .before .before .before .before .before .before .before .before .before .look .ensures ∙ ap (λ n. hereAt (c .before .before .before .before .before .before .before .before .before .before .before .before .before .before .before .before .before .args .s .now) n 0) (c .before .before .before .before .before .before .before .before .before .before .before .before .new .ensures)))) (false-so (c .before .before .before .before .before .before .before .before .begins-declaration .ensures ∙ ap (λ w. one-of w declarationFirsts) (c .before .before .before .before .before .before .before .before .before .word .ensures)) (c .before .before .before .before .before .before .before .if2 .left)) (sym (c .before .before .before .before .before .before .word2 .ensures) ∙ c .before .before .before .before .before .if3 .left) (c .before .before .before .plain-row .ensures) (c .before .before .finish .ensures))
+same-length-3 c = finished-kept (c .before .before .before .before .before .before .before .before .before .before .before .before .before .before .if1 .left) (tree-read _ _ _ (c .before .before .before .before .before .before .before .before .before .before .before .before .before .before .if1 .left) (c .before .before .before .before .before .before .before .before .before .before .before .look .ensures ∙ ap (λ n. hereAt (c .before .before .before .before .before .before .before .before .before .before .before .before .before .before .before .before .before .args .s .now) n 0) (c .before .before .before .before .before .before .before .before .before .before .before .before .new .ensures)) (c .before .before .before .before .before .before .before .before .before .before .loop .inv _ _ (tree-begins _ _ _ (c .before .before .before .before .before .before .before .before .before .before .before .before .before .before .if1 .left) (c .before .before .before .before .before .before .before .before .before .before .before .look .ensures ∙ ap (λ n. hereAt (c .before .before .before .before .before .before .before .before .before .before .before .before .before .before .before .before .before .args .s .now) n 0) (c .before .before .before .before .before .before .before .before .before .before .before .before .new .ensures)))) (sym (c .before .before .before .before .before .before .word2 .ensures) ∙ c .before .before .before .before .before .if3 .left) (c .before .before .before .plain-row .ensures) (c .before .before .finish .ensures))
 
 returns-4 : tie.Need-returns-4 Inv-loop μ-loop
-returns-4 c = tree-read _ _ (c .before .before .before .before .before .before .before .before .before .before .before .before .before .before .if1 .left) (c .before .before .before .before .before .before .before .before .before .before .before .look .ensures ∙ ap (λ n. hereAt (c .before .before .before .before .before .before .before .before .before .before .before .before .before .before .before .before .before .args .s .now) n 0) (c .before .before .before .before .before .before .before .before .before .before .before .before .new .ensures)) (c .before .before .before .before .before .before .before .before .before .before .loop .inv _ _ (tree-begins _ _ (c .before .before .before .before .before .before .before .before .before .before .before .before .before .before .if1 .left) (c .before .before .before .before .before .before .before .before .before .before .before .look .ensures ∙ ap (λ n. hereAt (c .before .before .before .before .before .before .before .before .before .before .before .before .before .before .before .before .before .args .s .now) n 0) (c .before .before .before .before .before .before .before .before .before .before .before .before .new .ensures)))) (false-so (c .before .before .before .before .before .before .before .before .begins-declaration .ensures ∙ ap (λ w. one-of w declarationFirsts) (c .before .before .before .before .before .before .before .before .before .word .ensures)) (c .before .before .before .before .before .before .before .if2 .left)) (sym (c .before .before .before .before .before .before .word2 .ensures) ∙ c .before .before .before .before .before .if3 .left) (c .before .before .before .plain-row .ensures) (c .before .before .finish .ensures)
+returns-4 c = tree-read _ _ _ (c .before .before .before .before .before .before .before .before .before .before .before .before .before .before .if1 .left) (c .before .before .before .before .before .before .before .before .before .before .before .look .ensures ∙ ap (λ n. hereAt (c .before .before .before .before .before .before .before .before .before .before .before .before .before .before .before .before .before .args .s .now) n 0) (c .before .before .before .before .before .before .before .before .before .before .before .before .new .ensures)) (c .before .before .before .before .before .before .before .before .before .before .loop .inv _ _ (tree-begins _ _ _ (c .before .before .before .before .before .before .before .before .before .before .before .before .before .before .if1 .left) (c .before .before .before .before .before .before .before .before .before .before .before .look .ensures ∙ ap (λ n. hereAt (c .before .before .before .before .before .before .before .before .before .before .before .before .before .before .before .before .before .args .s .now) n 0) (c .before .before .before .before .before .before .before .before .before .before .before .before .new .ensures)))) (sym (c .before .before .before .before .before .before .word2 .ensures) ∙ c .before .before .before .before .before .if3 .left) (c .before .before .before .plain-row .ensures) (c .before .before .finish .ensures)
 
 pub tree-spec : {M : Type 1} → statement M
 tree-spec =

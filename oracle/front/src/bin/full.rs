@@ -10,7 +10,9 @@ mod parser;
 #[path = "../rows.rs"]
 mod rows;
 
+use ast::SyntaxTree;
 use front::files;
+use parser::{Extras, ParseResult, Parser, meta::Spans};
 use protocol::Refusal;
 
 /// The commit has a token for `f"`, with code 90 here.
@@ -25,6 +27,11 @@ fn whole(source: &[u8]) -> Result<&str, Refusal> {
         let at = e.valid_up_to();
         Refusal::new(2, at, at + 1)
     })
+}
+
+/// The commit has one grammar, in which `test` is a declaration.
+fn parse_old(spans: &mut Spans, source: &str) -> ParseResult<(SyntaxTree, Extras)> {
+    Parser::parse(0, spans, source)
 }
 
 fn main() -> std::io::Result<()> {

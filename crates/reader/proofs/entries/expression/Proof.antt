@@ -43,13 +43,13 @@ same-length : tie.Need-same-length
 same-length c = search needs
 
 returns : tie.Need-returns
-returns c = permits-early false _ _ (sym (c .before .before .before .before .before .before .before .check-source .ensures .0) ∙ c .before .before .before .before .before .why .given .1) (c .before .before .refused .ensures)
+returns c = permits-early false false _ _ (sym (c .before .before .before .before .before .before .before .check-source .ensures .0) ∙ c .before .before .before .before .before .why .given .1) (c .before .before .refused .ensures)
 
 same-length-2 : tie.Need-same-length-2
 same-length-2 c = search needs
 
 returns-2 : tie.Need-returns-2
-returns-2 c = permits-read false _ (c .before .before .before .before .before .before .before .before .before .before .before .before .before .args .table .now) (sym (c .before .before .before .before .before .before .before .before .before .before .check-source .ensures .0) ∙ c .before .before .before .before .before .before .before .before .enum-told .given .1) (c .before .before .before .before .before .before .expression .ensures) (c .before .before .answer .ensures)
+returns-2 c = permits-read false false _ (c .before .before .before .before .before .before .before .before .before .before .before .before .before .args .table .now) (sym (c .before .before .before .before .before .before .before .before .before .before .check-source .ensures .0) ∙ c .before .before .before .before .before .before .before .before .enum-told .given .1) (c .before .before .before .before .before .before .expression .ensures) (c .before .before .answer .ensures)
 
 pub expression-spec : {M : Type 1} → statement M
 expression-spec =

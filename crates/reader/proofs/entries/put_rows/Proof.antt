@@ -1,4 +1,5 @@
 use mathlib.Core.Path.{sym, _∙_}
+use mathlib.Core.Bool.{true}
 use Rattle.entry.proofs.Stored.{puts-early, puts-read}
 use borrow.Author.Needs.{needs}
 use Rattle.reader.proofs.entries.put_rows.Statement.{statement}
@@ -32,13 +33,13 @@ same-length : tie.Need-same-length
 same-length c = search needs
 
 returns : tie.Need-returns
-returns c = puts-early _ _ (sym (c .before .before .before .before .before .before .before .check-source .ensures .0) ∙ c .before .before .before .before .before .why .given .1) (c .before .before .refused .ensures)
+returns c = puts-early true _ _ (sym (c .before .before .before .before .before .before .before .check-source .ensures .0) ∙ c .before .before .before .before .before .why .given .1) (c .before .before .refused .ensures)
 
 same-length-2 : tie.Need-same-length-2
 same-length-2 c = search needs
 
 returns-2 : tie.Need-returns-2
-returns-2 c = puts-read _ _ (sym (c .before .before .before .before .before .before .before .before .before .before .check-source .ensures .0) ∙ c .before .before .before .before .before .before .before .before .enum-told .given .1) (c .before .before .before .before .before .before .tree .ensures) (c .before .before .answer-put .ensures)
+returns-2 c = puts-read true _ _ (sym (c .before .before .before .before .before .before .before .before .before .before .check-source .ensures .0) ∙ c .before .before .before .before .before .before .before .before .enum-told .given .1) (c .before .before .before .before .before .before .tree .ensures) (c .before .before .answer-put .ensures)
 
 pub put-rows-spec : {M : Type 1} → statement M
 put-rows-spec =

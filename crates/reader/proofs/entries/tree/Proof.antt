@@ -1,5 +1,5 @@
 use mathlib.Core.Path.{sym, _∙_}
-use mathlib.Core.Bool.{true}
+use mathlib.Core.Bool.{true, false}
 use lib.Seq.{length-take-le}
 use Rattle.entry.proofs.Stored.{permits-early, permits-read}
 use borrow.Author.Needs.{needs}
@@ -43,13 +43,13 @@ same-length : tie.Need-same-length
 same-length c = search needs
 
 returns : tie.Need-returns
-returns c = permits-early true _ _ (sym (c .before .before .before .before .before .before .before .check-source .ensures .0) ∙ c .before .before .before .before .before .why .given .1) (c .before .before .refused .ensures)
+returns c = permits-early false true _ _ (sym (c .before .before .before .before .before .before .before .check-source .ensures .0) ∙ c .before .before .before .before .before .why .given .1) (c .before .before .refused .ensures)
 
 same-length-2 : tie.Need-same-length-2
 same-length-2 c = search needs
 
 returns-2 : tie.Need-returns-2
-returns-2 c = permits-read true _ (c .before .before .before .before .before .before .before .before .before .before .before .before .before .args .table .now) (sym (c .before .before .before .before .before .before .before .before .before .before .check-source .ensures .0) ∙ c .before .before .before .before .before .before .before .before .enum-told .given .1) (c .before .before .before .before .before .before .tree .ensures) (c .before .before .answer .ensures)
+returns-2 c = permits-read false true _ (c .before .before .before .before .before .before .before .before .before .before .before .before .before .args .table .now) (sym (c .before .before .before .before .before .before .before .before .before .before .check-source .ensures .0) ∙ c .before .before .before .before .before .before .before .before .enum-told .given .1) (c .before .before .before .before .before .before .tree .ensures) (c .before .before .answer .ensures)
 
 pub tree-spec : {M : Type 1} → statement M
 tree-spec =
