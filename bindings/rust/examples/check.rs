@@ -5,21 +5,16 @@ use std::process::ExitCode;
 
 use lekhyundo::{Reader, Refusal};
 
-/// The line that holds a place, counted from 1, and where it starts.
-fn line_of(source: &[u8], place: usize) -> (usize, usize) {
-    let before = &source[..place.min(source.len())];
-    let start = before.iter().rposition(|&byte| byte == b'\n').map_or(0, |at| at + 1);
-    (before.iter().filter(|&&byte| byte == b'\n').count() + 1, start)
-}
-
 fn report(file: &str, source: &[u8], refusal: &Refusal) {
-    let (line, start) = line_of(source, refusal.start);
-    let column = refusal.start.min(source.len()) - start;
-    println!("{file}:{line}:{}: refused {}: {}", column + 1, refusal.number, refusal.meaning());
+    let place = refusal.place(source);
+    println!("{file}:{place}: refused {}: {}", refusal.number, refusal.meaning());
+    let at = refusal.start.min(source.len());
+    let start = at + 1 - place.column;
     let end = source[start..].iter().position(|&byte| byte == b'\n').map_or(source.len(), |at| start + at);
-    let text: String = String::from_utf8_lossy(&source[start..end]).replace(|c: char| c.is_control() && c != '\t', "\u{fffd}");
+    let text: String =
+        String::from_utf8_lossy(&source[start..end]).replace(|c: char| c.is_control() && c != '\t', "\u{fffd}");
     // Tabs are kept in front of the caret, so that it stands under its column however wide they are.
-    let indent: String = source[start..start + column].iter().map(|&byte| if byte == b'\t' { '\t' } else { ' ' }).collect();
+    let indent: String = source[start..at].iter().map(|&byte| if byte == b'\t' { '\t' } else { ' ' }).collect();
     let width = refusal.end.min(end).saturating_sub(refusal.start).max(1);
     println!("{text}\n{indent}{}", "^".repeat(width));
 }
@@ -36,7 +31,7 @@ fn main() -> ExitCode {
                 continue;
             }
         };
-        if let Err(refusal) = reader.tree(&source).map(|_| ()) {
+        if let Err(refusal) = reader.tree(&source) {
             report(&file, &source, &refusal);
             refused = true;
         }

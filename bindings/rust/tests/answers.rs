@@ -1,7 +1,11 @@
 use lekhyundo::{
-    Constant, F_STRING, FLOAT, Float, Reader, Refusal, SIZE, TEXT, Token, WIDTH, at, constant, decode, float, float_of, name, subtree, table_check,
-    table_write, tokens,
+    Constant, Float, Kind, Reader, Refusal, SIZE, Token, TokenCode, WIDTH, at, constant, decode, float, float_of, name, subtree, table_check,
+    table_write, token_list,
 };
+
+const FLOAT: u64 = Kind::Float.number();
+const F_STRING: u64 = Kind::FString.number();
+const TEXT: u64 = Kind::Text.number();
 
 fn refusal(number: u64, start: usize, end: usize) -> Refusal {
     Refusal { number, start, end, needed: 0 }
@@ -10,7 +14,7 @@ fn refusal(number: u64, start: usize, end: usize) -> Refusal {
 #[test]
 fn a_tree_has_the_rows_of_document_01() {
     let mut reader = Reader::default();
-    let rows: Vec<_> = reader.tree(b"const A: u8 = 1;").unwrap().collect();
+    let rows: Vec<_> = reader.tree(b"const A: u8 = 1;").unwrap().rows().to_vec();
     assert_eq!(
         rows,
         [[1, 6, 7, 0, 0, 0, 1], [1, 9, 11, 0, 0, 0, 1], [2, 9, 11, 1, 0, 0, 2], [6, 9, 11, 1, 0, 0, 3], [10, 14, 15, 0, 1, 0, 1], [40, 0, 16, 3, 0, 0, 6], [43, 0, 16, 1, 0, 0, 7]]
@@ -26,7 +30,7 @@ fn a_tree_has_the_rows_of_document_01() {
 
 #[test]
 fn a_size_spans_the_rows_of_a_subtree() {
-    let rows: Vec<_> = Reader::default().tree(b"fn f(a: u8) { g(a, 1) } const A: u8 = 1;").unwrap().collect();
+    let rows: Vec<_> = Reader::default().tree(b"fn f(a: u8) { g(a, 1) } const A: u8 = 1;").unwrap().rows().to_vec();
     for (at, row) in rows.iter().enumerate() {
         let under = subtree(&rows, at);
         assert_eq!(under.len(), row[SIZE] as usize);
@@ -68,7 +72,7 @@ fn refusals_have_their_number_and_place() {
 #[test]
 fn a_value_is_any_number_that_its_suffix_holds() {
     let mut reader = Reader::default();
-    let rows: Vec<_> = reader.expression(b"18446744073709551615u64").unwrap().collect();
+    let rows: Vec<_> = reader.expression(b"18446744073709551615u64").unwrap().rows().to_vec();
     assert_eq!(rows, [[10, 0, 23, 0, u64::MAX, 8, 1]]);
     assert_eq!(reader.expression(b"18446744073709551616u64").err(), Some(refusal(7, 0, 23)));
     assert_eq!(reader.expression(b"300u8").err(), Some(refusal(7, 0, 5)));
@@ -77,7 +81,7 @@ fn a_value_is_any_number_that_its_suffix_holds() {
 #[test]
 fn an_address_may_end_in_a_dotted_quad() {
     let mut reader = Reader::default();
-    let rows: Vec<_> = reader.expression(b"::ffff:1.2.3.4").unwrap().collect();
+    let rows: Vec<_> = reader.expression(b"::ffff:1.2.3.4").unwrap().rows().to_vec();
     assert_eq!(rows, [[15, 0, 14, 0, 0, 0xffff_0102_0304, 1]]);
     assert_eq!(reader.expression(b"::256.0.0.0").err(), Some(refusal(7, 0, 11)));
     assert_eq!(reader.expression(b"::1.2").err(), Some(refusal(6, 4, 5)));
@@ -86,13 +90,13 @@ fn an_address_may_end_in_a_dotted_quad() {
 #[test]
 fn an_f_string_has_its_texts_and_its_holes() {
     let mut reader = Reader::default();
-    let rows: Vec<_> = reader.expression(br#"f"{{peer}} {x} down""#).unwrap().collect();
+    let rows: Vec<_> = reader.expression(br#"f"{{peer}} {x} down""#).unwrap().rows().to_vec();
     assert_eq!(
         rows,
         [[TEXT, 2, 11, 0, 7, 0, 1], [1, 12, 13, 0, 0, 0, 1], [2, 12, 13, 1, 0, 0, 2], [TEXT, 14, 19, 0, 5, 0, 1], [F_STRING, 0, 19, 3, 0, 0, 5]]
     );
-    assert_eq!(reader.expression(b"f\"\"").unwrap().collect::<Vec<_>>(), [[F_STRING, 0, 2, 0, 0, 0, 1]]);
-    assert_eq!(tokens(b"f\"\""), Err(refusal(5, 0, 2)));
+    assert_eq!(reader.expression(b"f\"\"").unwrap().rows(), [[F_STRING, 0, 2, 0, 0, 0, 1]]);
+    assert_eq!(token_list(b"f\"\""), Err(refusal(5, 0, 2)));
 }
 
 #[test]
@@ -100,13 +104,14 @@ fn no_room_says_how_much_is_needed() {
     let mut reader = Reader::with_room(2);
     let no_room = reader.expression(b"1+2").err();
     assert_eq!(no_room, Some(Refusal { number: 10, start: 0, end: 0, needed: 3 }));
-    assert_eq!(Reader::with_room(3).expression(b"1+2").unwrap().len(), 3);
+    assert_eq!(Reader::with_room(3).expression(b"1+2").unwrap().rows().len(), 3);
 }
 
 #[test]
 fn tokens_and_strings() {
-    assert_eq!(tokens(b"if ::1"), Ok(vec![Token { code: 11, start: 0, end: 2 }, Token { code: 1, start: 3, end: 6 }]));
-    assert_eq!(tokens(b"'"), Err(refusal(4, 0, 1)));
+    let (keyword, address) = (TokenCode::Keyword, TokenCode::Ipv6);
+    assert_eq!(token_list(b"if ::1"), Ok(vec![Token { code: keyword, start: 0, end: 2 }, Token { code: address, start: 3, end: 6 }]));
+    assert_eq!(token_list(b"'"), Err(refusal(4, 0, 1)));
     assert_eq!(decode(br#""a\u{e9}\n""#), Ok("a\u{e9}\n".as_bytes().to_vec()));
     assert_eq!(decode(b"\"a"), Err(refusal(7, 0, 2)));
     assert_eq!(decode(b""), Err(refusal(7, 0, 0)));
@@ -130,9 +135,10 @@ fn a_float_has_the_width_of_its_suffix() {
 fn a_row_of_a_float_has_its_number() {
     let source = b"const LIMIT: f32 = 0.1f32; const A: f64 = 0.00000000000000000001;";
     let mut reader = Reader::default();
-    let rows: Vec<_> = reader.tree(source).unwrap().filter(|row| row[0] == FLOAT).collect();
-    assert_eq!(float_of(source, &rows[0]), Ok(Float::F32(0.1)));
-    assert_eq!(float_of(source, &rows[1]), Err(refusal(14, 42, 64)));
+    let tree = reader.tree(source).unwrap();
+    let rows: Vec<_> = tree.rows().iter().filter(|row| row[0] == FLOAT).collect();
+    assert_eq!(float_of(source, rows[0]), Ok(Float::F32(0.1)));
+    assert_eq!(float_of(source, rows[1]), Err(refusal(14, 42, 64)));
     assert_eq!(float_of(source, &[1, 6, 11, 0, 0, 0, 1]), Err(refusal(7, 6, 11)));
     assert_eq!(float_of(source, &[FLOAT, 60, 90, 0, 0, 0, 1]), Err(refusal(7, 60, 90)));
     assert_eq!(float_of(source, &[FLOAT, 9, 8, 0, 0, 0, 1]), Err(refusal(7, 9, 8)));
@@ -141,7 +147,7 @@ fn a_row_of_a_float_has_its_number() {
 #[test]
 fn the_leaf_under_a_byte() {
     let mut reader = Reader::default();
-    let mut rows: Vec<_> = reader.tree(b"const A: u8 = 1;").unwrap().collect();
+    let mut rows: Vec<_> = reader.tree(b"const A: u8 = 1;").unwrap().rows().to_vec();
     assert_eq!(at(&rows, 6), Ok(0));
     // Each end is outside; the sign before the type and the whole line are in no leaf.
     assert_eq!(at(&rows, 7), Err(refusal(13, 0, 0)));
@@ -202,7 +208,7 @@ fn a_file_of_ours_is_accepted_with_its_rows() {
         let file = table_write(source).unwrap();
         let checked = table_check(&file).unwrap();
         assert_eq!(checked.source, source);
-        assert_eq!(checked.rows, Reader::default().tree(source).unwrap().collect::<Vec<_>>());
+        assert_eq!(checked.rows, Reader::default().tree(source).unwrap().rows());
         assert_eq!(checked.tests, 0);
         assert_eq!(table_check(&file[..file.len() - 1]), Err(refusal(17, 0, 0)));
     }
@@ -235,7 +241,7 @@ fn a_test_is_refused_in_a_source_and_counted_in_a_file() {
 #[test]
 fn a_file_of_another_tool_is_accepted_only_if_it_is_ours() {
     let source = b"const A: u8 = 1;";
-    let rows: Vec<_> = Reader::default().tree(source).unwrap().collect();
+    let rows: Vec<_> = Reader::default().tree(source).unwrap().rows().to_vec();
     assert_eq!(file(source, &rows, &[5]), table_write(source).unwrap());
     for (bytes, number, start, end) in [
         (vec![], 17, 0, 0),

@@ -166,7 +166,7 @@ pub extern "C" fn lekhyundo_float(t: &[u8], answer: &mut [u64])
 
 // C-15: the last leaf of a table whose span holds a byte; number, its span, its index from 0.
 #[no_mangle]
-pub extern "C" fn lekhyundo_node(table: &[u64], position: u64, answer: &mut [u64])
+pub extern "C" fn lekhyundo_at(table: &[u64], position: u64, answer: &mut [u64])
     ensures { λ r. ⌜ Searched (now (table .entry)) position (now (answer .entry)) (now (answer .exit)) ⌝ }
 {
     let a = nodes::node_at(table, position);

@@ -6,14 +6,7 @@ mod narrowed;
 mod random;
 mod speed;
 
-unsafe extern "C" {
-    /// out: number, start, end, width, bits.
-    fn lekhyundo_float(s: *const u8, n: usize, out: *mut u64, room: usize);
-    /// out: 0 or a refusal's number, start, end, code, word.
-    fn lekhyundo_step(s: *const u8, n: usize, at: usize, out: *mut u64, room: usize);
-    /// out: 0 or 7, kind, value, detail.
-    fn lekhyundo_literal(s: *const u8, n: usize, code: u64, start: usize, end: usize, out: *mut u64, room: usize);
-}
+use lekhyundo::sys;
 
 /// Of document 01's rows.
 const FLOAT: u64 = 11;
@@ -24,7 +17,7 @@ type Answer = [u64; 5];
 pub fn ours(text: &[u8]) -> Answer {
     let mut out = [u64::MAX; 5];
     // SAFETY: each pointer is to that many elements, and the library keeps none.
-    unsafe { lekhyundo_float(text.as_ptr(), text.len(), out.as_mut_ptr(), out.len()) };
+    unsafe { sys::lekhyundo_float(text.as_ptr(), text.len(), out.as_mut_ptr(), out.len()) };
     out
 }
 
@@ -34,13 +27,13 @@ const LONGEST: usize = 65_535;
 fn one_float(text: &[u8]) -> bool {
     let (mut step, mut row) = ([u64::MAX; 5], [u64::MAX; 4]);
     // SAFETY: as above.
-    unsafe { lekhyundo_step(text.as_ptr(), text.len(), 0, step.as_mut_ptr(), step.len()) };
+    unsafe { sys::lekhyundo_step(text.as_ptr(), text.len(), 0, step.as_mut_ptr(), step.len()) };
     let [number, start, end, code, _] = step;
     if number != 0 || start != 0 || end != text.len() as u64 || text.len() > LONGEST {
         return false;
     }
     // SAFETY: as above.
-    unsafe { lekhyundo_literal(text.as_ptr(), text.len(), code, 0, text.len(), row.as_mut_ptr(), row.len()) };
+    unsafe { sys::lekhyundo_literal(text.as_ptr(), text.len(), code, 0, text.len(), row.as_mut_ptr(), row.len()) };
     row[0] == 0 && row[1] == FLOAT
 }
 

@@ -4,20 +4,13 @@ mod accounts;
 mod speed;
 
 use accounts::{Answer, search, walk};
+use lekhyundo::sys;
 use protocol::{WIDTH, serve};
-
-unsafe extern "C" {
-    /// (a) and (b) into `table`; answer: number, start, end, count.
-    fn lekhyundo_tree(s: *const u8, n: usize, table: *mut u64, size: usize, answer: *mut u64, room: usize);
-    fn lekhyundo_expression(s: *const u8, n: usize, table: *mut u64, size: usize, answer: *mut u64, room: usize);
-    /// answer: number, start, end, index.
-    fn lekhyundo_node(table: *const u64, size: usize, position: u64, answer: *mut u64, room: usize);
-}
 
 pub fn ours(table: &[u64], position: u64) -> Answer {
     let mut out = [u64::MAX; 4];
     // SAFETY: each pointer is to that many elements, and the library keeps none.
-    unsafe { lekhyundo_node(table.as_ptr(), table.len(), position, out.as_mut_ptr(), out.len()) };
+    unsafe { sys::lekhyundo_at(table.as_ptr(), table.len(), position, out.as_mut_ptr(), out.len()) };
     out
 }
 
@@ -26,7 +19,7 @@ pub fn table_of(source: &[u8], tree: bool) -> Option<Vec<u64>> {
     // No source has more than three rows to two bytes, and one.
     let mut table = vec![0; (source.len() * 3 / 2 + 2) * WIDTH];
     let mut answer = [u64::MAX; 4];
-    let entry = if tree { lekhyundo_tree } else { lekhyundo_expression };
+    let entry = if tree { sys::lekhyundo_tree } else { sys::lekhyundo_expression };
     // SAFETY: as above.
     unsafe { entry(source.as_ptr(), source.len(), table.as_mut_ptr(), table.len(), answer.as_mut_ptr(), answer.len()) };
     table.truncate(answer[3] as usize * WIDTH);

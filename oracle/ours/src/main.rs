@@ -1,5 +1,6 @@
 //! Our own code behind the protocol: the compiled Rattle library, called as C calls it.
 
+use lekhyundo::sys::{self, Entry, Token};
 use protocol::{
     Case, Constant, NotThere, Refusal, WIDTH, serve, time, write_bytes, write_constant, write_no_room, write_pair, write_refusal, write_row,
 };
@@ -7,64 +8,14 @@ use protocol::{
 mod list;
 mod word;
 
-#[repr(C)]
-#[derive(Clone, Copy, PartialEq)]
-struct Token {
-    code: u64,
-    start: usize,
-    end: usize,
-}
-
 const ZERO: Token = Token { code: 0, start: 0, end: 0 };
 const UNSET: Token = Token { code: 77, start: 7, end: 7 };
-
-type Entry = unsafe extern "C" fn(*const u8, usize, *mut u64, usize, *mut u64, usize);
-
-unsafe extern "C" {
-    /// (c) into `list`; out: number, start, end, count.
-    fn lekhyundo_token_list(
-        source: *const u8, length: usize, list: *mut Token, list_length: usize, out: *mut u64, out_length: usize,
-    );
-    /// The same without a list, with room for so many tokens.
-    fn lekhyundo_tokens(source: *const u8, length: usize, room: usize, out: *mut u64, out_length: usize);
-    /// out: 0 for a token, else 4, 5 or 11; start; end; code; word number.
-    fn lekhyundo_step(source: *const u8, length: usize, at: u64, out: *mut u64, out_length: usize);
-    /// (a) and (b) into `table`, seven numbers a row; answer: number, start, end, count.
-    fn lekhyundo_tree(
-        source: *const u8, length: usize, table: *mut u64, table_length: usize, answer: *mut u64, answer_length: usize,
-    );
-    fn lekhyundo_expression(
-        source: *const u8, length: usize, table: *mut u64, table_length: usize, answer: *mut u64, answer_length: usize,
-    );
-    /// (e) into `out`; answer: number, start, end, count.
-    fn lekhyundo_decode(
-        source: *const u8, length: usize, out: *mut u8, out_length: usize, answer: *mut u64, answer_length: usize,
-    );
-    /// C-17; answer: number, start, end, width, bits.
-    fn lekhyundo_float(source: *const u8, length: usize, answer: *mut u64, answer_length: usize);
-    /// C-15; answer: number, start, end, index.
-    fn lekhyundo_node(table: *const u64, table_length: usize, position: u64, answer: *mut u64, answer_length: usize);
-    /// C-18; answer: number, start, end, count, type, bits.
-    fn lekhyundo_constant(
-        source: *const u8, length: usize, number: u64, table: *mut u64, table_length: usize, list: *mut u64, list_length: usize,
-        answer: *mut u64, answer_length: usize,
-    );
-    /// C-21, the rows in `table`; answer: number, start, end, rows, tests.
-    fn lekhyundo_table_check(
-        file: *const u8, length: usize, table: *mut u64, table_length: usize, answer: *mut u64, answer_length: usize,
-    );
-    /// C-21, the rows in `table`; answer: number, start, end, bytes.
-    fn lekhyundo_table_write(
-        source: *const u8, length: usize, table: *mut u64, table_length: usize, file: *mut u8, file_length: usize,
-        answer: *mut u64, answer_length: usize,
-    );
-}
 
 fn tokens(source: &[u8], list: &mut [Token]) -> [u64; 4] {
     let mut out = [u64::MAX; 4];
     // SAFETY: each pointer is to that many elements, and the library keeps none.
     unsafe {
-        lekhyundo_token_list(source.as_ptr(), source.len(), list.as_mut_ptr(), list.len(), out.as_mut_ptr(), out.len())
+        sys::lekhyundo_token_list(source.as_ptr(), source.len(), list.as_mut_ptr(), list.len(), out.as_mut_ptr(), out.len())
     };
     out
 }
@@ -72,14 +23,14 @@ fn tokens(source: &[u8], list: &mut [Token]) -> [u64; 4] {
 fn count(source: &[u8], room: usize) -> [u64; 4] {
     let mut out = [u64::MAX; 4];
     // SAFETY: as above.
-    unsafe { lekhyundo_tokens(source.as_ptr(), source.len(), room, out.as_mut_ptr(), out.len()) };
+    unsafe { sys::lekhyundo_tokens(source.as_ptr(), source.len(), room, out.as_mut_ptr(), out.len()) };
     out
 }
 
-fn step(source: &[u8], at: u64) -> [u64; 5] {
+fn step(source: &[u8], at: usize) -> [u64; 5] {
     let mut out = [u64::MAX; 5];
     // SAFETY: as above.
-    unsafe { lekhyundo_step(source.as_ptr(), source.len(), at, out.as_mut_ptr(), out.len()) };
+    unsafe { sys::lekhyundo_step(source.as_ptr(), source.len(), at, out.as_mut_ptr(), out.len()) };
     out
 }
 
@@ -134,10 +85,10 @@ fn walk(source: &[u8], list: [u64; 4], written: &[Token], out: &mut String) -> O
             write_row(out, &[code, start as u64, end as u64]);
         }
         let text = source.get(start as usize..end as usize).filter(|text| !text.is_empty());
-        if start < at || text.is_none_or(|text| word::number(code, text) != Some(word)) {
+        if (start as usize) < at || text.is_none_or(|text| word::number(code, text) != Some(word)) {
             return Some(format!("step from {at}: {start} {end} {code} has word {word}\n"));
         }
-        (at, seen) = (end, seen + 1);
+        (at, seen) = (end as usize, seen + 1);
     }
 }
 
@@ -150,7 +101,7 @@ fn read(entry: Entry, source: &[u8], table: &mut [u64]) -> [u64; 4] {
 
 /// (a) and (b), into a table that is not zeros before, with numbers behind the last whole row. What is left must be zeros.
 fn rows(case: &Case<'_>, out: &mut String) {
-    let entry = if case.entry == b'a' { lekhyundo_tree } else { lekhyundo_expression };
+    let entry = if case.entry == b'a' { sys::lekhyundo_tree } else { sys::lekhyundo_expression };
     // No source has more than three rows to two bytes, and one.
     let room = case.room.min(case.source.len() as u64 * 3 / 2 + 2) as usize;
     let mut table = vec![0xa5u64; room * WIDTH + case.source.len() % WIDTH];
@@ -176,7 +127,7 @@ fn decode(case: &Case<'_>, out: &mut String) {
     let mut answer = [u64::MAX; 4];
     // SAFETY: each pointer is to that many elements, and the library keeps none.
     unsafe {
-        lekhyundo_decode(
+        sys::lekhyundo_decode(
             case.source.as_ptr(), case.source.len(), bytes.as_mut_ptr(), bytes.len(), answer.as_mut_ptr(), answer.len(),
         )
     };
@@ -200,7 +151,7 @@ fn write_lent([number, start, end, count]: [u64; 4], bytes: &[u8], room: u64, ou
 fn float(case: &Case<'_>, out: &mut String) {
     let mut answer = [u64::MAX; 5];
     // SAFETY: as above.
-    unsafe { lekhyundo_float(case.source.as_ptr(), case.source.len(), answer.as_mut_ptr(), answer.len()) };
+    unsafe { sys::lekhyundo_float(case.source.as_ptr(), case.source.len(), answer.as_mut_ptr(), answer.len()) };
     let [number, start, end, width, bits] = answer;
     let found = if number == 0 { Ok((width, bits)) } else { Err(Refusal { number, start, end }) };
     write_pair(out, found);
@@ -217,7 +168,7 @@ fn node(case: &Case<'_>, out: &mut String) {
     let table: Vec<u64> = words.filter_map(number).collect();
     let mut answer = [u64::MAX; 4];
     // SAFETY: as above.
-    unsafe { lekhyundo_node(table.as_ptr(), table.len(), case.room, answer.as_mut_ptr(), answer.len()) };
+    unsafe { sys::lekhyundo_at(table.as_ptr(), table.len(), case.room, answer.as_mut_ptr(), answer.len()) };
     match answer {
         [0, start, end, index] => out.push_str(&format!("accepted {index} {start} {end}\n")),
         [number, start, end, _] => write_refusal(out, Refusal { number, start, end }),
@@ -234,7 +185,7 @@ fn constant(case: &Case<'_>, out: &mut String) {
     let mut answer = [u64::MAX; 7];
     // SAFETY: as above.
     unsafe {
-        lekhyundo_constant(
+        sys::lekhyundo_constant(
             case.source.as_ptr(), case.source.len(), case.room, table.as_mut_ptr(), table.len(), list.as_mut_ptr(), list.len(),
             answer.as_mut_ptr(), 6,
         )
@@ -252,7 +203,7 @@ fn constant(case: &Case<'_>, out: &mut String) {
     };
     let (mut rows, mut instructions) = (vec![0; table.len()], vec![0; list.len()]);
     if number == 0 {
-        read(lekhyundo_tree, case.source, &mut rows);
+        read(sys::lekhyundo_tree, case.source, &mut rows);
         let float = |start, end| float_bits(&case.source[start as usize..end as usize]);
         let expected = list::expected(&rows, case.room, kind, &float);
         instructions[..expected.len()].copy_from_slice(&expected);
@@ -278,7 +229,7 @@ fn valued(kind: u64, bits: u64) -> Constant {
 fn float_bits(literal: &[u8]) -> u64 {
     let mut answer = [u64::MAX; 5];
     // SAFETY: as above.
-    unsafe { lekhyundo_float(literal.as_ptr(), literal.len(), answer.as_mut_ptr(), answer.len()) };
+    unsafe { sys::lekhyundo_float(literal.as_ptr(), literal.len(), answer.as_mut_ptr(), answer.len()) };
     answer[4]
 }
 
@@ -288,7 +239,7 @@ fn check(case: &Case<'_>, out: &mut String) {
     let mut answer = [u64::MAX; 5];
     // SAFETY: as above.
     unsafe {
-        lekhyundo_table_check(
+        sys::lekhyundo_table_check(
             case.source.as_ptr(), case.source.len(), table.as_mut_ptr(), table.len(), answer.as_mut_ptr(), answer.len(),
         )
     };
@@ -310,7 +261,7 @@ fn write(case: &Case<'_>, out: &mut String) {
     let mut answer = [u64::MAX; 4];
     // SAFETY: as above.
     unsafe {
-        lekhyundo_table_write(
+        sys::lekhyundo_table_write(
             case.source.as_ptr(), case.source.len(), table.as_mut_ptr(), table.len(), bytes.as_mut_ptr(), bytes.len(),
             answer.as_mut_ptr(), answer.len(),
         )
@@ -335,7 +286,7 @@ fn time_tokens(arguments: &[String]) -> std::io::Result<()> {
 /// Into a table of exactly the rows that there are.
 fn time_trees(arguments: &[String]) -> std::io::Result<()> {
     let table = std::cell::RefCell::new(Vec::new());
-    let made = |source: &[u8]| read(lekhyundo_tree, source, &mut table.borrow_mut())[3];
+    let made = |source: &[u8]| read(sys::lekhyundo_tree, source, &mut table.borrow_mut())[3];
     let count = |source: &[u8]| {
         let count = made(source);
         table.borrow_mut().resize(count as usize * WIDTH, 0);

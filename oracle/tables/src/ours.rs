@@ -1,27 +1,6 @@
 //! Our code, called as C calls it, with lent memory that isn't zeros before.
 
-unsafe extern "C" {
-    /// C-21's check, with a table to compare in; answer: number, start, end, rows, tests.
-    fn lekhyundo_table_check(
-        file: *const u8,
-        n: usize,
-        table: *mut u64,
-        size: usize,
-        answer: *mut u64,
-        five: usize,
-    );
-    /// C-21's writer, with a table for the rows; answer: number, start, end, count.
-    fn lekhyundo_table_write(
-        source: *const u8,
-        n: usize,
-        table: *mut u64,
-        size: usize,
-        out: *mut u8,
-        room: usize,
-        answer: *mut u64,
-        four: usize,
-    );
-}
+use lekhyundo::sys;
 
 const UNSET: u64 = 0xa5a5_a5a5_a5a5_a5a5;
 
@@ -37,7 +16,7 @@ pub fn check(file: &[u8], size: usize) -> (Checked, Vec<u64>) {
     let mut answer = [UNSET; 5];
     // SAFETY: each pointer is to that many elements, and the library keeps none.
     unsafe {
-        lekhyundo_table_check(
+        sys::lekhyundo_table_check(
             file.as_ptr(),
             file.len(),
             table.as_mut_ptr(),
@@ -56,7 +35,7 @@ pub fn write(source: &[u8], size: usize, bytes: usize) -> (Written, Vec<u64>, Ve
     let mut answer = [UNSET; 4];
     // SAFETY: as above.
     unsafe {
-        lekhyundo_table_write(
+        sys::lekhyundo_table_write(
             source.as_ptr(),
             source.len(),
             table.as_mut_ptr(),

@@ -1,20 +1,13 @@
 //! Literal values and decoded strings against Rust's own parsers: exhaustive over short texts, then random and damaged ones.
 use std::net::{Ipv4Addr, Ipv6Addr};
 
-unsafe extern "C" {
-    /// out: 0 or 7, kind, value, detail.
-    fn lekhyundo_literal(s: *const u8, n: usize, code: u64, start: usize, end: usize, out: *mut u64, room: usize);
-    /// out: 0, start, end, code, word; or a refusal.
-    fn lekhyundo_step(s: *const u8, n: usize, at: usize, out: *mut u64, room: usize);
-    /// answer: number, start, end, count.
-    fn lekhyundo_decode(s: *const u8, n: usize, out: *mut u8, room: usize, answer: *mut u64, answers: usize);
-}
+use lekhyundo::sys;
 
 type Row = Option<(u64, u64, u64)>;
 
 fn ours(s: &[u8], code: u64, start: usize, end: usize) -> Row {
     let mut out = [9u64; 4];
-    unsafe { lekhyundo_literal(s.as_ptr(), s.len(), code, start, end, out.as_mut_ptr(), 4) };
+    unsafe { sys::lekhyundo_literal(s.as_ptr(), s.len(), code, start, end, out.as_mut_ptr(), 4) };
     match out[0] {
         0 => Some((out[1], out[2], out[3])),
         7 => None,
@@ -25,7 +18,7 @@ fn ours(s: &[u8], code: u64, start: usize, end: usize) -> Row {
 /// Whether a text is one token of the code.
 fn one_token(s: &[u8], code: u64) -> bool {
     let mut out = [9u64; 5];
-    unsafe { lekhyundo_step(s.as_ptr(), s.len(), 0, out.as_mut_ptr(), 5) };
+    unsafe { sys::lekhyundo_step(s.as_ptr(), s.len(), 0, out.as_mut_ptr(), 5) };
     out[..4] == [0, 0, s.len() as u64, code]
 }
 
@@ -228,7 +221,7 @@ impl Tally {
         };
         let mut out = vec![0xaau8; room];
         let mut got = [99u64; 4];
-        unsafe { lekhyundo_decode(text.as_ptr(), text.len(), out.as_mut_ptr(), room, got.as_mut_ptr(), 4) };
+        unsafe { sys::lekhyundo_decode(text.as_ptr(), text.len(), out.as_mut_ptr(), room, got.as_mut_ptr(), 4) };
         let same = got == answer && out == bytes;
         self.note(&format!("decode {room} {got:?} not {answer:?}"), text, same, held.is_some());
     }

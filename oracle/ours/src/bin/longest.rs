@@ -5,27 +5,13 @@ mod painted;
 
 use std::{hint::black_box, time::Instant};
 
+use lekhyundo::sys;
 use painted::Painted;
 use protocol::WIDTH;
 
 const RUNS: usize = 400;
 const INSTRUCTION: usize = 5;
 const MOST: usize = 1_024;
-
-unsafe extern "C" {
-    fn lekhyundo_tree(s: *const u8, n: usize, table: *mut u64, size: usize, answer: *mut u64, room: usize);
-    fn lekhyundo_constant(
-        s: *const u8,
-        n: usize,
-        number: u64,
-        table: *mut u64,
-        size: usize,
-        list: *mut u64,
-        room: usize,
-        answer: *mut u64,
-        answers: usize,
-    );
-}
 
 /// What is read, and where the answers go.
 struct Call {
@@ -39,7 +25,7 @@ unsafe extern "C" fn tree(call: *mut Call) {
     // SAFETY: it is lent by someone who alone holds it, and each pointer is to that many elements.
     unsafe {
         let Call { source, table, answer, .. } = &mut *call;
-        lekhyundo_tree(
+        sys::lekhyundo_tree(
             source.as_ptr(),
             source.len(),
             table.as_mut_ptr(),
@@ -54,7 +40,7 @@ unsafe extern "C" fn constant(call: *mut Call) {
     // SAFETY: as above.
     unsafe {
         let Call { source, table, list, answer } = &mut *call;
-        lekhyundo_constant(
+        sys::lekhyundo_constant(
             source.as_ptr(),
             source.len(),
             0,

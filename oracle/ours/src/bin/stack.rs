@@ -5,25 +5,14 @@
 #[path = "../painted.rs"]
 mod painted;
 
+use lekhyundo::{
+    MOST_ROWS,
+    sys::{self, Entry},
+};
 use painted::Painted;
 use protocol::WIDTH;
 
-const MOST_ROWS: usize = 98_304;
 const LIMIT: usize = 32;
-
-type Entry = unsafe extern "C" fn(*const u8, usize, *mut u64, usize, *mut u64, usize);
-
-unsafe extern "C" {
-    fn lekhyundo_tree(s: *const u8, n: usize, table: *mut u64, size: usize, answer: *mut u64, four: usize);
-    fn lekhyundo_expression(
-        s: *const u8,
-        n: usize,
-        table: *mut u64,
-        size: usize,
-        answer: *mut u64,
-        four: usize,
-    );
-}
 
 /// What is read, and where the answer goes.
 struct Call<'a> {
@@ -57,7 +46,7 @@ impl Measure {
 
     /// What one level more takes, of those that a text opens.
     fn level(&mut self, open: &str) -> usize {
-        let [less, more] = [8, 24].map(|times| self.taken(lekhyundo_expression, &open.repeat(times)));
+        let [less, more] = [8, 24].map(|times| self.taken(sys::lekhyundo_expression, &open.repeat(times)));
         (more - less) / 16
     }
 
@@ -88,7 +77,7 @@ fn chain(links: usize) -> String {
 fn main() {
     let mut measure = Measure { stack: Painted::new(), table: vec![0; MOST_ROWS * WIDTH] };
     let owned = |texts: &[&str]| texts.iter().map(|text| text.to_string()).collect::<Vec<_>>();
-    println!("{:8} bytes: the empty source", measure.taken(lekhyundo_expression, ""));
+    println!("{:8} bytes: the empty source", measure.taken(sys::lekhyundo_expression, ""));
 
     // A factor ends the row of return forms, so that as many signs may follow; what stands behind a sign of each level is read
     // inside what the sign joins.
@@ -134,7 +123,7 @@ fn main() {
         "a.b?",
     ];
     let sources = leaves.map(|leaf| format!("const A:a={outside}{before}{plain}{before}{leaf}"));
-    let sizes = sources.map(|source| (measure.taken(lekhyundo_tree, &source), source));
+    let sizes = sources.map(|source| (measure.taken(sys::lekhyundo_tree, &source), source));
     let (bytes, source) = sizes.into_iter().max().expect("some leaf");
     println!("{bytes:8} bytes: the deepest source, {} bytes long", source.len());
     if let Some(file) = std::env::args().nth(1) {
