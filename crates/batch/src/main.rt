@@ -33,9 +33,10 @@ fn tree(source: &[u8], room: usize, table: &mut [u64]) {
         print::answer_tree(
             source,
             &mut table[..room * rows::WIDTH + source.len() % rows::WIDTH],
+            false,
         );
     } else {
-        print::answer_tree(source, table);
+        print::answer_tree(source, table, false);
     }
 }
 
@@ -45,9 +46,10 @@ fn expression(source: &[u8], room: usize, table: &mut [u64]) {
         print::answer_expression(
             source,
             &mut table[..room * rows::WIDTH + source.len() % rows::WIDTH],
+            false,
         );
     } else {
-        print::answer_expression(source, table);
+        print::answer_expression(source, table, false);
     }
 }
 
@@ -104,12 +106,16 @@ fn answer(entry: u8, source: &[u8], line: Line, table: &mut [u64]) {
     match entry {
         b'a' => tree(source, room, table),
         b'b' => expression(source, room, table),
-        b'c' => print::answer_tokens(source, room),
+        b'c' => {
+            print::answer_tokens(source, room, false);
+        }
         b'e' => print::answer_decode(source, room),
         b'f' => print::answer_float(source),
         b'k' => listed(source, line, table),
         b'n' => node(source, line.first, table),
-        b't' => print::answer_check(source, table),
+        b't' => {
+            print::answer_check(source, table);
+        }
         b'w' => print::answer_write(source, table, room),
         _ => {}
     }

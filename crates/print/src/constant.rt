@@ -60,7 +60,7 @@ pub fn answer(s: &[u8], number: u64, table: &mut [u64], list: &mut [u64]) {
 }
 
 // A number of a row, 0 where the table has no such row.
-fn cell(table: &[u64], row: usize, column: usize) -> u64 {
+pub fn cell(table: &[u64], row: usize, column: usize) -> u64 {
     if row < table.len() / rows::WIDTH {
         if column < rows::WIDTH {
             return table[row * rows::WIDTH + column];
@@ -93,7 +93,7 @@ fn constant_row(table: &[u64], count: usize, number: u64) -> usize {
 }
 
 // So many rows before a row, the first where there are fewer.
-fn rows_before(row: usize, many: u64) -> usize {
+pub fn rows_before(row: usize, many: u64) -> usize {
     if many <= row as u64 {
         return row - many as usize;
     }
@@ -111,7 +111,7 @@ fn byte(b: u8) {
 }
 
 // A row's text on one line.
-fn row_text(s: &[u8], table: &[u64], row: usize) {
+pub fn row_text(s: &[u8], table: &[u64], row: usize) {
     let end = cell(table, row, END) as usize;
     let mut i = cell(table, row, START) as usize;
     while i < end {
@@ -253,39 +253,65 @@ fn value_text(ty: u64, v: Value) {
     io::write_all(STDOUT_FILENO, b"\n");
 }
 
+// How a constant was answered.
+enum Next {
+    Accepted,
+    Refused,
+    // There is none with that number.
+    Missing,
+    // The source is refused.
+    Unread,
+}
+
 // A line for the constant with a number, whose row is known.
-fn constant_line(s: &[u8], number: u64, row: usize, table: &mut [u64], list: &mut [u64]) {
+fn constant_line(s: &[u8], number: u64, row: usize, table: &mut [u64], list: &mut [u64]) -> Next {
     name_and_type(s, table, row);
     let c = constants::evaluate(s, number, table, list);
     match c {
-        Constant::Is(v, ty, _) => value_text(ty, v),
-        Constant::Refused(a) => refusal_line(s, a),
+        Constant::Is(v, ty, _) => {
+            value_text(ty, v);
+            Next::Accepted
+        }
+        Constant::Refused(a) => {
+            refusal_line(s, a);
+            Next::Refused
+        }
     }
 }
 
-// A line for the constant with a number, and whether there is one; or that of the source's refusal.
-fn next_constant(s: &[u8], number: u64, table: &mut [u64], list: &mut [u64]) -> bool {
+// A line for the constant with a number, where there is one; or that of the source's refusal.
+fn next_constant(s: &[u8], number: u64, table: &mut [u64], list: &mut [u64]) -> Next {
     let a = entries::tree(s, table);
     if a.number != refusal::NONE {
         refusal_line(s, a);
-        return false;
+        return Next::Unread;
     }
     let row = constant_row(table, a.count, number);
     if row == a.count {
-        return false;
+        return Next::Missing;
     }
-    constant_line(s, number, row, table, list);
-    true
+    constant_line(s, number, row, table, list)
 }
 
-// C-18: a line for each constant of a source, its name, its type and its value or refusal; or the source's refusal.
-pub fn answer_all(s: &[u8], table: &mut [u64], list: &mut [u64]) {
+// C-18: a line for each constant of a source, its name, its type and its value or refusal; or the source's refusal. Whether nothing was refused.
+pub fn answer_all(s: &[u8], table: &mut [u64], list: &mut [u64]) -> bool {
+    let mut fine = true;
     let mut i = 0;
     while i < MOST_BYTES {
-        let more = next_constant(s, i as u64, table, list);
-        if !more {
-            return;
+        let next = next_constant(s, i as u64, table, list);
+        match next {
+            Next::Accepted => {}
+            Next::Refused => {
+                fine = false;
+            }
+            Next::Missing => {
+                return fine;
+            }
+            Next::Unread => {
+                return false;
+            }
         }
         i += 1;
     }
+    fine
 }

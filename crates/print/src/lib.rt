@@ -10,6 +10,7 @@ use tokens::Cursor;
 use tokens::Step;
 
 pub mod constant;
+mod names;
 
 fn number(n: u64) {
     io::write_all(STDOUT_FILENO, b" ");
@@ -36,8 +37,25 @@ fn head(a: Answer) {
     io::write_all(STDOUT_FILENO, b"\n");
 }
 
-// The tokens from the start on, a line each: code, start, end.
-fn token_lines(s: &[u8], count: usize) {
+// A token: its code, start and end; or the name of its code, and its text behind them.
+fn token_line(s: &[u8], code: u64, start: usize, end: usize, named: bool) {
+    if named {
+        names::code_name(code);
+    } else {
+        io::print_decimal(STDOUT_FILENO, code);
+    }
+    number(start as u64);
+    number(end as u64);
+    if named {
+        io::write_all(STDOUT_FILENO, b" ");
+        text_line(s, start, end);
+    } else {
+        io::write_all(STDOUT_FILENO, b"\n");
+    }
+}
+
+// The tokens from the start on, a line each.
+fn token_lines(s: &[u8], count: usize, named: bool) {
     let mut cursor = Cursor::new();
     let mut i = 0;
     while i < count {
@@ -45,22 +63,21 @@ fn token_lines(s: &[u8], count: usize) {
         let Step::Taken(word, start, next) = step else {
             return;
         };
-        io::print_decimal(STDOUT_FILENO, tokens::code_of(word));
-        number(start as u64);
-        number(next.at as u64);
-        io::write_all(STDOUT_FILENO, b"\n");
+        token_line(s, tokens::code_of(word), start, next.at, named);
         cursor = next;
         i += 1;
     }
 }
 
-// (c): the answer, and the tokens where it accepts.
-pub fn answer_tokens(s: &[u8], room: usize) {
+// (c): the answer, and the tokens where it accepts. Here and below: whether it does.
+pub fn answer_tokens(s: &[u8], room: usize, named: bool) -> bool {
     let a = tokens::count_tokens(s, room);
     head(a);
     if a.number == refusal::NONE {
-        token_lines(s, a.count);
+        token_lines(s, a.count, named);
+        return true;
     }
+    false
 }
 
 // The bytes as one line of hex, two digits each.
@@ -132,23 +149,29 @@ fn row_lines(table: &[u64], count: usize) {
     }
 }
 
-fn answer_rows(a: Answer, table: &[u64]) {
+fn answer_rows(s: &[u8], a: Answer, table: &mut [u64], named: bool) -> bool {
     head(a);
-    if a.number == refusal::NONE {
-        row_lines(table, a.count);
+    if a.number != refusal::NONE {
+        return false;
     }
+    if named {
+        names::tree_lines(s, table, a.count);
+        return true;
+    }
+    row_lines(table, a.count);
+    true
 }
 
-// (a): the answer, and the rows where it accepts.
-pub fn answer_tree(s: &[u8], table: &mut [u64]) {
+// (a): the answer, and the rows where it accepts, by their numbers or as a tree with names.
+pub fn answer_tree(s: &[u8], table: &mut [u64], named: bool) -> bool {
     let a = entries::tree(s, table);
-    answer_rows(a, table);
+    answer_rows(s, a, table, named)
 }
 
 // (b): likewise.
-pub fn answer_expression(s: &[u8], table: &mut [u64]) {
+pub fn answer_expression(s: &[u8], table: &mut [u64], named: bool) -> bool {
     let a = entries::expression(s, table);
-    answer_rows(a, table);
+    answer_rows(s, a, table, named)
 }
 
 fn accepted(first: u64, second: u64) {
@@ -199,7 +222,7 @@ fn text_line(s: &[u8], start: usize, end: usize) {
 }
 
 // The last leaf of a source's rows that holds a byte, its row and its text.
-fn leaf(s: &[u8], table: &[u64], position: u64) {
+fn leaf(s: &[u8], table: &[u64], position: u64) -> bool {
     let a = nodes::node_at(table, position);
     node_line(a);
     if a.number == refusal::NONE {
@@ -208,35 +231,39 @@ fn leaf(s: &[u8], table: &[u64], position: u64) {
             row_line(table, row * rows::WIDTH);
         }
         text_line(s, a.start, a.end);
+        return true;
     }
+    false
 }
 
 // (a), and of its rows the last leaf that holds a byte.
-pub fn answer_leaf(s: &[u8], table: &mut [u64], position: u64) {
+pub fn answer_leaf(s: &[u8], table: &mut [u64], position: u64) -> bool {
     let a = entries::tree(s, table);
     if a.number == refusal::NONE {
         let count = a.count;
         if count <= table.len() / rows::WIDTH {
-            leaf(s, &table[..count * rows::WIDTH], position);
+            return leaf(s, &table[..count * rows::WIDTH], position);
         }
     } else {
         head(a);
     }
+    false
 }
 
 // C-21: a file checked: `accepted ROWS TESTS`, or the refusal.
-pub fn answer_check(file: &[u8], table: &mut [u64]) {
+pub fn answer_check(file: &[u8], table: &mut [u64]) -> bool {
     let a = sheets::check(file, table);
     if a.number == refusal::NONE {
         accepted(a.count as u64, a.tests as u64);
-    } else {
-        head(Answer {
-            number: a.number,
-            start: a.start,
-            end: a.end,
-            count: a.count,
-        });
+        return true;
     }
+    head(Answer {
+        number: a.number,
+        start: a.start,
+        end: a.end,
+        count: a.count,
+    });
+    false
 }
 
 fn written(s: &[u8], table: &mut [u64], file: &mut [u8]) {
@@ -259,14 +286,15 @@ pub fn answer_write(s: &[u8], table: &mut [u64], room: usize) {
 }
 
 // C-21: the file of a source itself, or the refusal.
-pub fn answer_file(s: &[u8], table: &mut [u64], file: &mut [u8]) {
+pub fn answer_file(s: &[u8], table: &mut [u64], file: &mut [u8]) -> bool {
     let a = sheets::write(s, table, file);
     if a.number == refusal::NONE {
         let count = a.count;
         if count <= file.len() {
-            io::write_all(STDOUT_FILENO, &file[..count]);
+            return io::write_all(STDOUT_FILENO, &file[..count]);
         }
     } else {
         head(a);
     }
+    false
 }

@@ -1,16 +1,14 @@
-// Prints the rows of the tree of the source on standard input, or its refusal.
-
-// Rows that are enough for any source.
-const MOST_ROWS: usize = 98304;
-
-// Zeros for their numbers.
-fn rows_table() -> [u64; MOST_ROWS * rows::WIDTH] {
-    [0; MOST_ROWS * rows::WIDTH]
-}
+// Prints the rows of the tree of the source on standard input, or its refusal; with the argument `names` as a tree with names.
+use libc::STDIN_FILENO;
 
 fn main() {
+    let named = programs::asked() == b'n';
     let mut buffer = io::large_buffer();
-    let length = io::read_full(libc::STDIN_FILENO, &mut buffer);
-    let mut table = rows_table();
-    print::answer_tree(&buffer[..length], &mut table);
+    let length = io::read_full(STDIN_FILENO, &mut buffer);
+    if programs::unread() {
+        return;
+    }
+    let mut table = programs::rows_table();
+    let accepted = print::answer_tree(&buffer[..length], &mut table, named);
+    programs::end(accepted);
 }

@@ -1,16 +1,8 @@
 // Checks a file of a source and its rows, or writes one. Standard input is `t`, a newline and the file, or `w`, a newline and the source.
 use libc::STDIN_FILENO;
 
-// Rows that are enough for any source, and a place for the number that the check keeps behind them.
-const MOST_ROWS: usize = 98305;
-
 // Bytes of the longest file that is read or written here: that of an ordinary filter of 50 KiB.
 const MOST_BYTES: usize = 688128;
-
-// Zeros for their numbers.
-fn rows_table() -> [u64; MOST_ROWS * rows::WIDTH] {
-    [0; MOST_ROWS * rows::WIDTH]
-}
 
 // Zeros for its bytes.
 fn file_buffer() -> [u8; MOST_BYTES] {
@@ -19,19 +11,28 @@ fn file_buffer() -> [u8; MOST_BYTES] {
 
 fn check(table: &mut [u64], file: &mut [u8]) {
     let length = io::read_full(STDIN_FILENO, file);
-    print::answer_check(&file[..length], table);
+    if programs::unread() {
+        return;
+    }
+    let accepted = print::answer_check(&file[..length], table);
+    programs::end(accepted);
 }
 
 fn write(table: &mut [u64], file: &mut [u8]) {
     let mut source = io::large_buffer();
     let length = io::read_full(STDIN_FILENO, &mut source);
-    print::answer_file(&source[..length], table, file);
+    if programs::unread() {
+        return;
+    }
+    let accepted = print::answer_file(&source[..length], table, file);
+    programs::end(accepted);
 }
 
 fn main() {
+    programs::asked();
     let what = decimals::next_byte();
     decimals::next_byte();
-    let mut table = rows_table();
+    let mut table = programs::rows_table();
     let mut file = file_buffer();
     if what == b'w' {
         write(&mut table, &mut file);

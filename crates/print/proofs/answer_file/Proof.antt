@@ -3,11 +3,6 @@ use lib.Seq.{length-take-le}
 use borrow.Author.Needs.{needs}
 use Rattle.print.proofs.answer_file.Statement.{statement}
 use Rattle.print.proofs.answer_file.Tie as tie
-use Rattle.print.proofs.answer_file.Reads as reads
-use Rattle.print.proofs.answer_file.Lts as lts
-use Rattle.io.proofs.write_all.Reads as write-all-reads
-use Rattle.print.proofs.head.Reads as head-reads
-use Rattle.sheets.proofs.write.Reads as write-reads
 
 write-requires : tie.Need-write-requires
 write-requires c κs = search needs
@@ -21,9 +16,6 @@ slice-aggregate-write-all c = sym (length-take-le _ _ (slice-reshare-prefix-writ
 write-all-requires : tie.Need-write-all-requires
 write-all-requires c κs = search needs
 
-head-requires : tie.Need-head-requires
-head-requires c κs = search needs
-
 same-length : tie.Need-same-length
 same-length c = search needs
 
@@ -32,6 +24,9 @@ same-length-2 c = search needs
 
 returns : tie.Need-returns
 returns c = search needs
+
+head-requires : tie.Need-head-requires
+head-requires c κs = search needs
 
 same-length-3 : tie.Need-same-length-3
 same-length-3 c = search needs
@@ -59,10 +54,10 @@ answer-file-spec =
     slice-reshare-prefix-write-all
     slice-aggregate-write-all
     write-all-requires
-    head-requires
     same-length
     same-length-2
     returns
+    head-requires
     same-length-3
     same-length-4
     returns-2

@@ -19,14 +19,14 @@ slice-aggregate-leaf c = sym (length-take-le _ _ (slice-reshare-prefix-leaf (c .
 leaf-requires : tie.Need-leaf-requires
 leaf-requires c κs = search needs
 
-head-requires : tie.Need-head-requires
-head-requires c κs = search needs
-
 same-length : tie.Need-same-length
 same-length c = search needs
 
 returns : tie.Need-returns
 returns c = search needs
+
+head-requires : tie.Need-head-requires
+head-requires c κs = search needs
 
 same-length-2 : tie.Need-same-length-2
 same-length-2 c = search needs
@@ -49,9 +49,9 @@ answer-leaf-spec =
     slice-reshare-prefix-leaf
     slice-aggregate-leaf
     leaf-requires
-    head-requires
     same-length
     returns
+    head-requires
     same-length-2
     returns-2
     same-length-3

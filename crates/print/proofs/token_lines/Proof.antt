@@ -2,14 +2,12 @@ use Prim.Native.Nat.{_-_}
 use borrow.Author.Needs.{needs}
 use Rattle.print.proofs.token_lines.Statement.{statement}
 use Rattle.print.proofs.token_lines.Tie as tie
-use Rattle.print.proofs.token_lines.Reads as reads
-use Rattle.print.proofs.token_lines.Lts as lts
 
 abbrev Inv-loop : tie.InvT-loop
-Inv-loop s count cursor₀ i₀ t8 cursor i = Unit {0}
+Inv-loop s count named cursor₀ i₀ cursor i = Unit {0}
 
 abbrev μ-loop : tie.MeasureT-loop
-μ-loop s count cursor₀ i₀ t8 cursor i = count - i
+μ-loop s count named cursor₀ i₀ cursor i = count - i
 
 new-requires : tie.Need-new-requires Inv-loop μ-loop
 new-requires c κs = search needs
@@ -32,20 +30,8 @@ returns c = search needs
 code-of-requires : tie.Need-code-of-requires Inv-loop μ-loop
 code-of-requires c κs = search needs
 
-print-decimal-requires : tie.Need-print-decimal-requires Inv-loop μ-loop
-print-decimal-requires c κs = search needs
-
-number-requires : tie.Need-number-requires Inv-loop μ-loop
-number-requires c κs = search needs
-
-number-requires-2 : tie.Need-number-requires-2 Inv-loop μ-loop
-number-requires-2 c κs = search needs
-
-slice-aggregate-write-all : tie.Need-slice-aggregate-write-all Inv-loop μ-loop
-slice-aggregate-write-all c = search needs
-
-write-all-requires : tie.Need-write-all-requires Inv-loop μ-loop
-write-all-requires c κs = search needs
+token-line-requires : tie.Need-token-line-requires Inv-loop μ-loop
+token-line-requires c κs = search needs
 
 add-i : tie.Need-add-i Inv-loop μ-loop
 add-i c = search needs
@@ -72,11 +58,7 @@ token-lines-spec =
     enum-told
     returns
     code-of-requires
-    print-decimal-requires
-    number-requires
-    number-requires-2
-    slice-aggregate-write-all
-    write-all-requires
+    token-line-requires
     add-i
     loop-less
     loop-again
