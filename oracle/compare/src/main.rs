@@ -34,7 +34,7 @@ Modes:
   pairs                          pairs of edge values of each type under each operator: of 8 bits all, 25 to 106 of each wider type
   shapes                         chains, brackets and runs of signs of about 1,024 rows
 Options:
-  -e ENTRY        a, b, c, e, f, k or w (else c for exhaustive and random, b for tokens, a and b by turns for the others)
+  -e ENTRY        a, b, c, e, f, k, p or w (else c for exhaustive and random, b for tokens, a and b by turns for the others)
   --list TOKENS   tokens for `tokens` instead of its own, a space between; \\x20 and the like stand for bytes
   --between TEXT  put between the tokens of a text instead of a space
   --before TEXT   put before each text of `tokens`

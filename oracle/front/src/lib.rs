@@ -7,6 +7,7 @@ mod ast;
 pub mod files;
 #[path = "../../build/oracle/parser/mod.rs"]
 mod parser;
+pub mod printing;
 mod rows;
 
 use ast::SyntaxTree;

@@ -1,7 +1,7 @@
 //! The one protocol that the oracle, the full commit and our own code speak.
 //!
 //! Cases follow one another on standard input: a line `ENTRY LENGTH` or `ENTRY LENGTH ROOM`, then LENGTH bytes at
-//! once, then the next line. ENTRY is `a`, `b`, `c`, `e`, `f`, `k`, `n`, `o`, `t` or `w`; ROOM counts rows, tokens or bytes, enough if left out, is
+//! once, then the next line. ENTRY is `a`, `b`, `c`, `e`, `f`, `k`, `n`, `o`, `p`, `t` or `w`; ROOM counts rows, tokens or bytes, enough if left out, is
 //! the position for `n`, and for `k` it is the constant's number, behind which the rooms of its list and of the rows may stand.
 //! Each answer ends in an empty line. See ../README.md.
 
@@ -53,6 +53,12 @@ pub enum Constant {
     Bool(bool),
 }
 
+/// Of an accepted source: its print (C-20), and how many of its rows are tests.
+pub struct Printed {
+    pub text: String,
+    pub tests: u64,
+}
+
 /// Why there is none: a refusal, or 10 with the rows or instructions needed.
 #[derive(Clone, Copy, Debug)]
 pub enum NotThere {
@@ -98,13 +104,29 @@ pub fn write_bytes(out: &mut String, found: Result<&[u8], Refusal>, room: u64) {
         Ok(bytes) if bytes.len() as u64 > room => write_no_room(out, bytes.len() as u64),
         Ok(bytes) => {
             writeln!(out, "accepted {}", bytes.len()).unwrap();
-            for byte in bytes {
-                write!(out, "{byte:02x}").unwrap();
-            }
-            if !bytes.is_empty() {
-                out.push('\n');
-            }
+            write_hex(out, bytes);
         }
+    }
+}
+
+/// `accepted COUNT TESTS` and, unless COUNT is 0, one line of lower-case hex.
+pub fn write_printed(out: &mut String, found: Result<Printed, Refusal>, room: u64) {
+    match found {
+        Err(r) => write_refusal(out, r),
+        Ok(Printed { text, .. }) if text.len() as u64 > room => write_no_room(out, text.len() as u64),
+        Ok(Printed { text, tests }) => {
+            writeln!(out, "accepted {} {tests}", text.len()).unwrap();
+            write_hex(out, text.as_bytes());
+        }
+    }
+}
+
+fn write_hex(out: &mut String, bytes: &[u8]) {
+    for byte in bytes {
+        write!(out, "{byte:02x}").unwrap();
+    }
+    if !bytes.is_empty() {
+        out.push('\n');
     }
 }
 
@@ -197,6 +219,7 @@ fn parse_header(line: &[u8]) -> Option<(u8, u64, [u64; 3])> {
         "k" => b'k',
         "n" => b'n',
         "o" => b'o',
+        "p" => b'p',
         "t" => b't',
         "w" => b'w',
         _ => return None,

@@ -1,0 +1,12 @@
+pub mod Grown
+pub mod Same
+pub mod Peeked
+pub mod Places
+pub mod Stands
+pub mod Claims
+pub mod Table
+pub mod Alternatives
+pub mod Fits
+pub mod Sources
+pub mod Labelled
+pub mod Least

@@ -1,0 +1,3 @@
+pub mod Planted
+pub mod Told
+pub mod Met

@@ -1,0 +1,4 @@
+pub mod Alike
+pub mod Bare
+pub mod Groves
+pub mod Spelled

@@ -1,0 +1,16 @@
+pub mod Runs
+pub mod Stops
+pub mod Tests
+pub mod Addresses
+pub mod Rules
+pub mod Tokens
+pub mod Skips
+pub mod Looks
+pub mod Pieces
+pub mod FStrings
+pub mod Respelled
+pub mod Spaced
+pub mod Readings
+pub mod Prints
+pub mod Lows
+pub mod Fence

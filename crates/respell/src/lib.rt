@@ -1,0 +1,1 @@
+// A token's bytes in another source are that token there; no code.

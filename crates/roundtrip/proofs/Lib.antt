@@ -1,0 +1,4 @@
+pub mod Signs
+pub mod Lasts
+pub mod Meets
+pub mod ReadsBack

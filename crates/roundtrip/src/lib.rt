@@ -1,0 +1,1 @@
+// A print, read again, is the same tree; no code.

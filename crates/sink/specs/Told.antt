@@ -1,0 +1,78 @@
+-- What stands in a text, and how many bytes were written, after bytes and after tokens. Not to be believed: `telling-prints` (proofs/) says what it comes to.
+use mathlib.Core.Path.{_≡_}
+use mathlib.Core.List.{List, [], _∷_, _++_}
+use mathlib.Core.Bool.{Bool, false, not, cond}
+use Prim.Native.Nat.{ℕ, zero, suc, _+_, _/_, _%_}
+use lib.Dec.{ltb}
+use lib.ListN.{length, set}
+use Rattle.tokens.specs.Words.{twoSigns, oneSigns, keywords}
+use Rattle.canon.specs.Text.{Bit, sign, spelled, spelling, ends-line, spaced}
+use Rattle.sink.specs.declared.Sink.{Sink}
+
+pub record Written : Type 0 where
+  pub text : List ℕ
+  pub at : ℕ
+
+abbrev pub written : List ℕ → ℕ → Written
+written t n = record { text = t; at = n }
+
+-- one more, as far as they are counted
+abbrev pub counted : ℕ → ℕ
+counted n = cond (ltb n 65536) (n + 1) n
+
+-- a byte more, where there is room
+unfoldable pub put : Written → ℕ → Written
+put x b = written (cond (ltb (x .at) (length (x .text))) (set (x .text) (x .at) b) (x .text)) (counted (x .at))
+
+unfoldable pub fed : Written → List ℕ → Written
+fed x [] = x
+fed x (b ∷ t) = fed (put x b) t
+
+-- the text of a word
+unfoldable pub wordText : ℕ → List ℕ
+wordText w = spelled (twoSigns ++ (oneSigns ++ keywords)) w
+
+abbrev pub blank : Bool → List ℕ
+blank b = cond b (32 ∷ []) []
+
+abbrev pub newline : Bool → List ℕ
+newline b = cond b (10 ∷ []) []
+
+pub record Told : Type 0 where
+  pub text : List ℕ
+  pub sink : Sink
+
+abbrev pub state : List ℕ → Sink → Told
+state t x = record { text = t; sink = x }
+
+-- a token of this text more
+unfoldable pub tell : Told → List ℕ → Bool → Told
+tell x t line =
+    let y = fed (fed (fed (written (x .text) (x .sink .at)) (blank (x .sink .gap))) t) (newline line) in
+    state (y .text) (record { at = y .at; gap = not line })
+
+unfoldable pub telling : Told → List Bit → Told
+telling x [] = x
+telling x (b ∷ bs) = telling (tell x (spelling b) (ends-line b)) bs
+
+-- up to three words in one number: each 1 more than its word, 128 times it the next
+abbrev pub digit : ℕ → List Bit
+digit zero = []
+digit (suc w) = sign w ∷ []
+
+abbrev pub said : ℕ → List Bit
+said n = digit (n % 128) ++ (digit (n / 128 % 128) ++ digit (n / 16384 % 128))
+
+-- the first n bytes of a list, zeros where it has ended; its length, as far as it is counted
+unfoldable pub padded : ℕ → List ℕ → List ℕ
+padded zero w = []
+padded (suc n) [] = 0 ∷ padded n []
+padded (suc n) (b ∷ w) = b ∷ padded n w
+
+abbrev pub capped : ℕ → ℕ
+capped n = cond (ltb n 65536) n 65536
+
+-- Telling a print's tokens to a text of zeros leaves the print there, and its length: `telling-prints` (proofs/Prints.antt).
+pub record TellsPrints (n : ℕ) (bs : List Bit) : Type 0 where
+  pub text : telling (state (padded n []) (record { at = 0; gap = false })) bs .text ≡ padded n (spaced bs)
+  pub at : telling (state (padded n []) (record { at = 0; gap = false })) bs .sink .at ≡ capped (length (spaced bs))
