@@ -22,7 +22,7 @@ pub data Parted (base top : ℕ) : Part → Type 0 where
   parted-none : Parted base top None
 
 -- how many bytes a mode stands behind
-abbrev least : Mode → ℕ
+abbrev pub least : Mode → ℕ
 least Text = 0
 least Escape = 0
 least Letter = 0
@@ -57,7 +57,7 @@ ended-in Hole base at top h k = parted-before {e = at - 2} (omega arith) (omega 
 ended-in Last base at top h k = parted-ends {e = at - 1} (omega arith) (omega arith)
 ended-in Torn base at top h k = parted-none
 
-part-in : (m : Mode) (base at : ℕ) (l : List ℕ) → base + least m ≤ at → Parted base (at + length l) (modesFrom m at l)
+pub part-in : (m : Mode) (base at : ℕ) (l : List ℕ) → base + least m ≤ at → Parted base (at + length l) (modesFrom m at l)
 unfolding modesFrom
 part-in m base at [] h = ended-in m base at (at + 0) h (omega arith)
 part-in m base at (b ∷ l) h = go (scans m) (part-in (modeAfter m b) base (at + 1) l (let q = least-after m b in omega arith))

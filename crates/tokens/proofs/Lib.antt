@@ -1,6 +1,6 @@
 mod Fits
 mod Pairs
-mod Blanks
+pub mod Blanks
 mod Tables
 mod Names
 mod Rules

@@ -435,7 +435,8 @@ fn is_name_start(b: u16) -> bool
     chars::is_letter(b) | (b == 95)
 }
 
-fn keyword_or_ident(s: &[u8], at: usize) -> Fit
+// The keyword or name that begins at a place, and where it ends.
+pub fn keyword_or_ident(s: &[u8], at: usize) -> Fit
     ensures { λ r. ⌜ r ≡ nameAt (now (s .entry)) at ⌝ }
 {
     if is_name_start(chars::byte_at(s, at)) {

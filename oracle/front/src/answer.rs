@@ -7,6 +7,7 @@ use std::panic::{AssertUnwindSafe, catch_unwind};
 
 use protocol::{
     Case, Constant, Found, NotThere, Refusal, Row, serve, time, write_bytes, write_constant, write_pair, write_printed, write_refusal, write_rows,
+    write_salvaged,
 };
 
 use crate::{
@@ -18,7 +19,7 @@ use crate::{
         meta::{Meta, Spans},
         token::Token,
     },
-    printing, rows,
+    printing, rows, salvage,
 };
 
 /// Recursion in the Rust goes as deep as the source nests; nothing of this is touched before it is needed.
@@ -71,6 +72,7 @@ fn answer(whole: WholeSource, case: &Case<'_>, out: &mut String) {
         b'f' => write_pair(out, float(whole, case.source)),
         b'k' => write_constant(out, constant(whole, case)),
         b'p' => write_printed(out, printing::printed(case.source, old_rows), case.room),
+        b's' => write_salvaged(out, salvage::salvage(case.source, rows), case.room, case.list),
         b't' => write_pair(out, files::check(case.source, old_rows).map(|checked| (checked.rows, checked.tests))),
         b'w' => write_bytes(out, files::write(case.source, rows).as_deref().map_err(|r| *r), case.room),
         b'o' => write_bytes(out, files::write(case.source, old_rows).as_deref().map_err(|r| *r), case.room),

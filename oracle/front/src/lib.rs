@@ -9,6 +9,7 @@ pub mod files;
 mod parser;
 pub mod printing;
 mod rows;
+pub mod salvage;
 
 use ast::SyntaxTree;
 use parser::{Extras, ParseResult, Parser, meta::Spans};

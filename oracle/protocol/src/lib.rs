@@ -1,8 +1,9 @@
 //! The one protocol that the oracle, the full commit and our own code speak.
 //!
 //! Cases follow one another on standard input: a line `ENTRY LENGTH` or `ENTRY LENGTH ROOM`, then LENGTH bytes at
-//! once, then the next line. ENTRY is `a`, `b`, `c`, `e`, `f`, `k`, `n`, `o`, `p`, `t` or `w`; ROOM counts rows, tokens or bytes, enough if left out, is
-//! the position for `n`, and for `k` it is the constant's number, behind which the rooms of its list and of the rows may stand.
+//! once, then the next line. ENTRY is `a`, `b`, `c`, `e`, `f`, `k`, `n`, `o`, `p`, `s`, `t` or `w`; ROOM counts rows, tokens or bytes, enough if left out, is
+//! the position for `n`, and for `k` it is the constant's number, behind which the rooms of its list and of the rows may stand;
+//! for `s` the room for ranges may stand behind that for rows.
 //! Each answer ends in an empty line. See ../README.md.
 
 use std::{
@@ -72,6 +73,19 @@ impl From<Refusal> for NotThere {
     }
 }
 
+/// "List each dropped range with its refusal" (C-23).
+#[derive(Clone, Copy, Debug, PartialEq, Eq)]
+pub struct Range {
+    pub start: u64,
+    pub end: u64,
+    pub refusal: Refusal,
+}
+
+pub struct Salvaged {
+    pub rows: Vec<Row>,
+    pub ranges: Vec<Range>,
+}
+
 /// `accepted COUNT` and a line for each row, or `refused ..`; 10 exactly when nothing else refuses and the count
 /// exceeds the room.
 pub fn write_rows<const N: usize>(out: &mut String, found: &Found<N>, room: u64) {
@@ -127,6 +141,25 @@ fn write_hex(out: &mut String, bytes: &[u8]) {
     }
     if !bytes.is_empty() {
         out.push('\n');
+    }
+}
+
+/// `accepted ROWS RANGES`, a line `range START END NUMBER START END` for each range, and the rows. "10 covers rows and ranges, rows counted
+/// first."
+pub fn write_salvaged(out: &mut String, found: Result<Salvaged, Refusal>, room: u64, range_room: u64) {
+    match found {
+        Err(r) => write_refusal(out, r),
+        Ok(Salvaged { rows, .. }) if rows.len() as u64 > room => write_no_room(out, rows.len() as u64),
+        Ok(Salvaged { ranges, .. }) if ranges.len() as u64 > range_room => write_no_room(out, ranges.len() as u64),
+        Ok(Salvaged { rows, ranges }) => {
+            writeln!(out, "accepted {} {}", rows.len(), ranges.len()).unwrap();
+            for Range { start, end, refusal: r } in ranges {
+                writeln!(out, "range {start} {end} {} {} {}", r.number, r.start, r.end).unwrap();
+            }
+            for row in rows {
+                write_row(out, &row);
+            }
+        }
     }
 }
 
@@ -220,12 +253,17 @@ fn parse_header(line: &[u8]) -> Option<(u8, u64, [u64; 3])> {
         "n" => b'n',
         "o" => b'o',
         "p" => b'p',
+        "s" => b's',
         "t" => b't',
         "w" => b'w',
         _ => return None,
     };
     let length = parts.next()?.parse().ok()?;
-    let most = if entry == b'k' { 3 } else { 1 };
+    let most = match entry {
+        b'k' => 3,
+        b's' => 2,
+        _ => 1,
+    };
     let mut numbers = [u64::MAX; 3];
     for number in &mut numbers[..most] {
         *number = parts.next().map_or(Some(u64::MAX), |text| text.parse().ok())?;

@@ -11,7 +11,7 @@ mod parser;
 mod rows;
 
 use ast::SyntaxTree;
-use front::{files, printing};
+use front::{files, printing, salvage};
 use parser::{Extras, ParseResult, Parser, meta::Spans};
 use protocol::Refusal;
 

@@ -1,0 +1,14 @@
+pub mod Window
+pub mod Lists
+pub mod Fence
+pub mod Skips
+pub mod Gap
+pub mod Ending
+pub mod Signs
+pub mod Pieces
+pub mod Looks
+pub mod Dropped
+pub mod Runs
+pub mod Suffix
+pub mod Leading
+pub mod Refusing

@@ -1,0 +1,12 @@
+pub mod Computed
+pub mod Examples
+pub mod Blanked
+pub mod Fine
+pub mod Left
+pub mod Fresh
+pub mod One
+pub mod Again
+pub mod Some
+pub mod Lines
+pub mod Stores
+pub mod Drops
