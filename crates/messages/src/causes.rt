@@ -12,6 +12,26 @@ const APOSTROPHE: u16 = 39;
 
 const QUOTE: u16 = 34;
 
+const HASH: u16 = 35;
+
+const AMPERSAND: u16 = 38;
+
+const BACKSLASH: u16 = 92;
+
+const BAR: u16 = 124;
+
+const SPACE: u16 = 32;
+
+const DELETE: u16 = 127;
+
+// A byte-order mark's first byte: in UTF-8, and from this one on in UTF-16.
+const MARK_8: u16 = 239;
+
+const MARK_16: u16 = 254;
+
+// The code of a keyword's token.
+const KEYWORD: u64 = 11;
+
 // The word of the token that starts at a place, and 0 where none does.
 fn word_at(s: &[u8], at: usize) -> u64 {
     let cursor = Cursor { at };
@@ -36,7 +56,7 @@ fn quoted(out: &mut [u8], at: usize, s: &[u8], start: usize, end: usize) -> usiz
 // 2: a byte-order mark has bytes of its own.
 fn high_byte(out: &mut [u8], at: usize, s: &[u8], start: usize) -> usize {
     let b = chars::byte_at(s, start);
-    if (start == 0) & ((b == 239) | (254 <= b)) {
+    if (start == 0) & ((b == MARK_8) | (MARK_16 <= b)) {
         return text::raw(
             out,
             at,
@@ -79,7 +99,7 @@ fn escaped(s: &[u8], start: usize, last: usize) -> bool {
     let mut odd = false;
     let mut i = start;
     while i < last {
-        if chars::byte_at(s, i) == 92 {
+        if chars::byte_at(s, i) == BACKSLASH {
             odd = !odd;
         } else {
             odd = false;
@@ -95,16 +115,16 @@ fn no_token(out: &mut [u8], at: usize, s: &[u8], start: usize) -> usize {
     if (b == QUOTE) | (b == APOSTROPHE) {
         return open_quote(out, at, s, start);
     }
-    if b == 35 {
+    if b == HASH {
         return text::raw(out, at, b"'#' means nothing here: a comment begins with //");
     }
-    if b == 38 {
+    if b == AMPERSAND {
         return text::raw(out, at, b"'&' alone means nothing: write '&&'");
     }
-    if b == 124 {
+    if b == BAR {
         return text::raw(out, at, b"'|' alone means nothing: write '||'");
     }
-    if (b < 32) | (b == 127) {
+    if (b < SPACE) | (b == DELETE) {
         let n = text::raw(out, at, b"byte 0x");
         let n = text::hex(out, n, byte(s, start));
         return text::raw(out, n, b" can't stand in a filter: remove it");
@@ -114,7 +134,7 @@ fn no_token(out: &mut [u8], at: usize, s: &[u8], start: usize) -> usize {
 }
 
 fn is_keyword(w: u64) -> bool {
-    tokens::code_of(w) == 11
+    tokens::code_of(w) == KEYWORD
 }
 
 // 6: a keyword where a name could stand, one that declares nothing here, or another token.

@@ -14,6 +14,10 @@ const APOSTROPHE: u16 = 39;
 
 const BACKSLASH: u16 = 92;
 
+const LOWER_U: u16 = 117;
+
+const LOWER_X: u16 = 120;
+
 const NEWLINE: u16 = 10;
 
 const RETURN: u16 = 13;
@@ -204,14 +208,14 @@ fn no_character(out: &mut [u8], at: usize, s: &[u8], i: usize) -> usize {
 // Why a backslash begins no escape.
 fn no_escape(out: &mut [u8], at: usize, s: &[u8], i: usize) -> usize {
     let b = chars::byte_at(s, std::num::wrapping_add_usize(i, 1));
-    if b == 120 {
+    if b == LOWER_X {
         return text::raw(
             out,
             at,
             b"\\x takes two hex digits, up to \\x7f: write \\u{..} for more",
         );
     }
-    if b == 117 {
+    if b == LOWER_U {
         return text::raw(
             out,
             at,

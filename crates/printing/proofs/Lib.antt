@@ -17,6 +17,5 @@ pub mod ReadsBack
 pub mod Labels
 pub mod Printed
 pub mod Sources
-pub mod Carry
 pub mod Back
 pub mod Bare

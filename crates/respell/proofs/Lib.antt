@@ -13,4 +13,3 @@ pub mod Spaced
 pub mod Readings
 pub mod Prints
 pub mod Lows
-pub mod Fence
