@@ -26,11 +26,12 @@
 extern "C" {
 #endif
 
-/* What is enough for any source: bytes that are read, rows, instructions of a constant, bytes of stack. */
+/* What is enough for any source: bytes that are read, rows, instructions of a constant, dropped ranges, bytes of stack. */
 enum lekhyundo_most {
     LEKHYUNDO_MOST_BYTES = 65535,
     LEKHYUNDO_MOST_ROWS = 98304,
     LEKHYUNDO_MOST_INSTRUCTIONS = 1024,
+    LEKHYUNDO_MOST_RANGES = 21845,
     LEKHYUNDO_MOST_STACK = 1179648
 };
 
@@ -342,6 +343,25 @@ void lekhyundo_table_check(const uint8_t *file, size_t file_length, uint64_t *ta
  * Refused: zeros throughout, in both. */
 void lekhyundo_table_write(const uint8_t *source, size_t source_length, uint64_t *table, size_t table_length,
                            uint8_t *file, size_t file_length, uint64_t *answer, size_t answer_length);
+
+/* The numbers of a dropped range by their place in it, and how many they are. */
+enum lekhyundo_range {
+    LEKHYUNDO_DROPPED_START = 0,
+    LEKHYUNDO_DROPPED_END = 1,
+    LEKHYUNDO_DROPPED_NUMBER = 2, /* of enum lekhyundo_refusal: 4, 6 to 9 or 11 */
+    LEKHYUNDO_DROPPED_REFUSAL_START = 3,
+    LEKHYUNDO_DROPPED_REFUSAL_END = 4,
+    LEKHYUNDO_RANGE = 5
+};
+
+/* A broken source salvaged, in the lent bytes themselves: each declaration that is refused is dropped, from its first byte (or, where none has begun, from the refused
+ * token's) to just before the next line, at or after the refusal's place, that begins, at column 0, with the whole word const, fn, filter, filtermap or import, or to
+ * the end. The dropped bytes are spaces then; the rows of what is left stand in the table as (a) would leave them, and the ranges, LEKHYUNDO_RANGE numbers each, first in the
+ * lent ranges, zeros behind them. Five numbers: 0, 0, source_length, how many rows, how many ranges. Or a refusal and 0: 1, 2 or 3 as of (a), and the source stays as it
+ * was; 10 with the rows needed, else 10 with the ranges needed, and the source has its spaces nevertheless: lend a copy of it to ask again. Refused: zeros throughout
+ * both tables. Room for ranges is ranges_length / LEKHYUNDO_RANGE; LEKHYUNDO_MOST_RANGES serve any source. */
+void lekhyundo_salvage(uint8_t *source, size_t source_length, uint64_t *table, size_t table_length,
+                       uint64_t *ranges, size_t ranges_length, uint64_t *answer, size_t answer_length);
 
 #ifdef __cplusplus
 }

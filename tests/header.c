@@ -343,6 +343,38 @@ static void files(void)
     same("another row", answer, row, 5);
 }
 
+static void salvages(void)
+{
+    uint64_t table[ROOM * LEKHYUNDO_WIDTH], ranges[2 * LEKHYUNDO_RANGE + 1], answer[5];
+    const char *source = "fn f() {\nfn g() {}", *left = "         fn g() {}", *none = "#!", *two = "x\nfn(";
+    const uint64_t kept[] = {0, 0, 18, 4, 1}, shebang[] = {LEKHYUNDO_REFUSAL_SHEBANG, 0, 2, 0, 0};
+    const uint64_t rows[] = {LEKHYUNDO_REFUSAL_NO_ROOM, 0, 0, 4, 0}, many[] = {LEKHYUNDO_REFUSAL_NO_ROOM, 0, 0, 2, 0};
+    const uint64_t range[] = {0, 9, LEKHYUNDO_REFUSAL_UNUSABLE, 9, 11, 0, 0, 0, 0, 0, 0};
+    const uint64_t name[] = {LEKHYUNDO_KIND_NAME, 12, 13, 0, 0, 0, 1}, zeros[2 * LEKHYUNDO_RANGE + 1] = {0};
+    uint8_t text[18];
+    size_t size = sizeof table / sizeof *table, room = sizeof ranges / sizeof *ranges;
+    memcpy(text, source, 18);
+    unset(ranges, room);
+    lekhyundo_salvage(text, 18, table, size, ranges, room, answer, 5);
+    same("a function salvaged", answer, kept, 5);
+    same("its range", ranges, range, room);
+    same("its first row", table, name, LEKHYUNDO_WIDTH);
+    same_number("what is left", (uint64_t)memcmp(text, left, 18), 0);
+    memcpy(text, source, 18);
+    unset(ranges, room);
+    lekhyundo_salvage(text, 18, table, 3 * LEKHYUNDO_WIDTH, ranges, 0, answer, 5);
+    same("no room for rows nor ranges", answer, rows, 5);
+    same_number("ranges that were not lent", ranges[0], UNSET);
+    memcpy(text, two, 5);
+    lekhyundo_salvage(text, 5, table, size, ranges, 2 * LEKHYUNDO_RANGE - 1, answer, 5);
+    same("no room for ranges", answer, many, 5);
+    same("zeros for them", ranges, zeros, 2 * LEKHYUNDO_RANGE - 1);
+    memcpy(text, none, 2);
+    lekhyundo_salvage(text, 2, table, size, ranges, room, answer, 5);
+    same("a shebang", answer, shebang, 5);
+    same_number("which stays", text[0], '#');
+}
+
 int main(void)
 {
     size_t i;
@@ -360,6 +392,7 @@ int main(void)
     leaves();
     constants();
     files();
+    salvages();
     printf("%u calls checked, %u wrong\n", checks, failures);
     return failures != 0;
 }

@@ -31,6 +31,7 @@
 //! | C-17, the number of a float | [`Node::float`], [`float()`](float()), [`float_of`] a row |
 //! | C-18, a constant's value | [`constant()`](constant()) |
 //! | C-21, tables from other tools | [`table_check`], [`table_write`] |
+//! | C-23, a broken file salvaged | [`salvage()`](salvage()) |
 //!
 //! All of it is at hand as C has it in [`sys`].
 #![warn(missing_docs)]
@@ -43,6 +44,7 @@ mod numbered;
 mod place;
 mod reader;
 mod refusal;
+mod salvage;
 pub mod sys;
 mod table;
 mod token;
@@ -54,6 +56,7 @@ pub use literal::{Float, decode, float, float_of, name};
 pub use place::{Lines, Place};
 pub use reader::Reader;
 pub use refusal::{Reason, Refusal};
+pub use salvage::{Dropped, Salvage, salvage};
 pub use table::{Checked, table_check, table_write};
 pub use token::{Token, TokenCode, Tokens, token_list, tokens};
 pub use tree::{Children, Node, Nodes, Path, Row, SIZE, Tree, WIDTH, at, subtree};
@@ -63,6 +66,9 @@ pub const MOST_BYTES: usize = 65_535;
 
 /// Rows that are enough for any source.
 pub const MOST_ROWS: usize = 98_304;
+
+/// Dropped ranges that are enough for any source: one to three bytes.
+pub const MOST_RANGES: usize = 21_845;
 
 /// Bytes of stack that are enough for any source, on x86-64 and on Arm. A filter of a few levels takes 11 to 16 KiB, a constant in it
 /// 17 KiB more; only nesting at all limits takes nearly this.

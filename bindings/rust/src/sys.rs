@@ -52,4 +52,10 @@ unsafe extern "C" {
         source: *const u8, length: usize, table: *mut u64, room: usize, file: *mut u8, file_room: usize, answer: *mut u64,
         four: usize,
     );
+    /// C-23, spaces for what is dropped in `source` itself, the rows in `table`, five numbers a range in `ranges`; answer: number, start,
+    /// end, rows, ranges.
+    pub fn lekhyundo_salvage(
+        source: *mut u8, length: usize, table: *mut u64, room: usize, ranges: *mut u64, range_room: usize, answer: *mut u64,
+        five: usize,
+    );
 }

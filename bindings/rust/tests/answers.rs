@@ -1,6 +1,6 @@
 use lekhyundo::{
-    Constant, Float, Kind, Reader, Refusal, SIZE, Token, TokenCode, WIDTH, at, constant, decode, float, float_of, name, subtree, table_check,
-    table_write, token_list,
+    Constant, Float, Kind, Reader, Refusal, SIZE, Token, TokenCode, WIDTH, at, constant, decode, float, float_of, name, salvage, subtree,
+    table_check, table_write, token_list,
 };
 
 const FLOAT: u64 = Kind::Float.number();
@@ -264,5 +264,40 @@ fn a_file_of_another_tool_is_accepted_only_if_it_is_ours() {
             other[row][number] += 1 << 32;
             assert_eq!(table_check(&file(source, &other, &[5])), Err(refusal(18, row, row + 1)));
         }
+    }
+}
+
+#[test]
+fn a_broken_source_keeps_its_good_declarations() {
+    let source = b"fn f() {\nfn g() {}\n+ 1\nconst A: u8 = 256u8;\nimport a;";
+    let salvage = salvage(source).unwrap();
+    let said: Vec<_> = salvage.dropped.iter().map(|dropped| (dropped.range.clone(), dropped.refusal)).collect();
+    assert_eq!(said, [(0..9, refusal(6, 9, 11)), (19..23, refusal(6, 19, 20)), (23..44, refusal(7, 37, 42))]);
+    let mut text = source.to_vec();
+    salvage.dropped.iter().for_each(|dropped| text[dropped.range.clone()].fill(b' '));
+    assert_eq!(salvage.text.as_bytes(), text);
+    assert_eq!(salvage.tree().root().children().map(|kept| kept.kind()).collect::<Vec<_>>(), [Kind::Fn, Kind::Import]);
+    assert_eq!(salvage.rows, Reader::default().tree(&text).unwrap().rows());
+}
+
+#[test]
+fn a_whole_source_is_kept_and_one_that_is_no_source_refused() {
+    let whole = salvage(b"import a;").unwrap();
+    assert_eq!((&whole.text[..], &whole.dropped[..]), ("import a;", &[][..]));
+    assert_eq!(salvage(b"").unwrap().rows, [[43, 0, 0, 0, 0, 0, 1]]);
+    assert_eq!(salvage(b"fn \x80"), Err(refusal(2, 3, 4)));
+    assert_eq!(salvage(b"#!"), Err(refusal(3, 0, 2)));
+    assert_eq!(salvage(&[b'x'; 65_536]), Err(refusal(1, 65_535, 65_535)));
+}
+
+#[test]
+fn the_most_ranges_that_a_source_has_fit() {
+    let words = b"fn\n".repeat(65_535 / 3);
+    let salvage = salvage(&words).unwrap();
+    assert_eq!(salvage.dropped.len(), 21_845);
+    assert_eq!(salvage.dropped[21_844].refusal, refusal(11, 65_535, 65_535));
+    assert_eq!(salvage.text.trim(), "");
+    for (source, ranges) in [("x", 1), ("x\nfn", 2), ("x\nfn\nfn", 3), ("fn\nfn", 2)] {
+        assert_eq!(crate::salvage(source.as_bytes()).unwrap().dropped.len(), ranges);
     }
 }

@@ -2,7 +2,7 @@
 
 use std::collections::BTreeMap;
 
-use lekhyundo::{Kind, MOST_BYTES, MOST_ROWS, MOST_STACK, Operator, Reason, TokenCode, WIDTH};
+use lekhyundo::{Kind, MOST_BYTES, MOST_RANGES, MOST_ROWS, MOST_STACK, Operator, Reason, TokenCode, WIDTH};
 
 const HEADER: &str = include_str!("../../../include/lekhyundo.h");
 
@@ -34,9 +34,9 @@ fn names_are_those_of_the_header() {
 
 #[test]
 fn sizes_are_those_of_the_header() {
-    let [bytes, rows, stack] = [MOST_BYTES, MOST_ROWS, MOST_STACK].map(|n| n as u64);
+    let [bytes, rows, ranges, stack] = [MOST_BYTES, MOST_ROWS, MOST_RANGES, MOST_STACK].map(|n| n as u64);
     let most = named("LEKHYUNDO_MOST_");
-    assert_eq!((most["Bytes"], most["Rows"], most["Stack"]), (bytes, rows, stack));
+    assert_eq!((most["Bytes"], most["Rows"], most["Ranges"], most["Stack"]), (bytes, rows, ranges, stack));
     assert_eq!(named("LEKHYUNDO_")["Width"], WIDTH as u64);
 }
 

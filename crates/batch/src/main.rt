@@ -1,5 +1,5 @@
 // Answers cases from standard input, one after the other: a line `ENTRY LENGTH` or `ENTRY LENGTH ROOM`, for `n` `n LENGTH POSITION`, for `k`
-// `k LENGTH NUMBER [LIST [ROWS]]`, then LENGTH bytes.
+// `k LENGTH NUMBER [LIST [ROWS]]`, for `s` `s LENGTH [ROWS [RANGES]]`, then LENGTH bytes.
 use decimals::Numeral;
 use libc::STDIN_FILENO;
 use libc::STDOUT_FILENO;
@@ -12,6 +12,9 @@ const ENOUGH: u64 = 1000000;
 
 // More rows than any case asks room for.
 const MOST_ROWS: usize = 10240;
+
+// More ranges than any case asks room for.
+const MOST_RANGES: usize = 1024;
 
 // More bytes than any case has.
 const MOST_BYTES: usize = 131072;
@@ -78,7 +81,7 @@ fn constant(source: &[u8], number: u64, room: usize, table: &mut [u64], list: &m
 // The same with a list of so many instructions.
 fn listed(source: &[u8], line: Line, table: &mut [u64]) {
     let mut list = instructions();
-    let room = line.list as usize;
+    let room = line.second as usize;
     if room < machine::MOST {
         constant(
             source,
@@ -92,16 +95,43 @@ fn listed(source: &[u8], line: Line, table: &mut [u64]) {
     }
 }
 
-// The numbers behind a case's length: the room, the position or the constant's number; the rooms of its list and its rows.
+// A broken source, in a table with so many rows, and with some numbers behind them that are no row.
+fn salvaged(source: &mut [u8], room: usize, table: &mut [u64], ranges: &mut [u64]) {
+    if room < table.len() / rows::WIDTH {
+        let behind = source.len() % rows::WIDTH;
+        print::answer_salvage(source, &mut table[..room * rows::WIDTH + behind], ranges);
+    } else {
+        print::answer_salvage(source, table, ranges);
+    }
+}
+
+// The same with so many ranges.
+fn ranged(source: &mut [u8], line: Line, table: &mut [u64]) {
+    let mut ranges = case_ranges();
+    let room = line.second as usize;
+    if room < MOST_RANGES {
+        let behind = source.len() % salvage::WIDTH;
+        salvaged(
+            source,
+            line.first as usize,
+            table,
+            &mut ranges[..room * salvage::WIDTH + behind],
+        );
+    } else {
+        salvaged(source, line.first as usize, table, &mut ranges);
+    }
+}
+
+// The numbers behind a case's length: the room, the position or the constant's number; the room of its list or its ranges; that of a constant's rows.
 struct Line {
     first: u64,
-    list: u64,
+    second: u64,
     rows: u64,
 }
 
 // Entries: `a` source to tree, `b` to one expression, `c` to token list, `e` a string token decoded, `f` the number of a float,
-// `k` a constant, `n` the leaf that holds a byte, `t` a file checked, `w` the file of a source.
-fn answer(entry: u8, source: &[u8], line: Line, table: &mut [u64]) {
+// `k` a constant, `n` the leaf that holds a byte, `s` a broken source salvaged, `t` a file checked, `w` the file of a source.
+fn answer(entry: u8, source: &mut [u8], line: Line, table: &mut [u64]) {
     let room = line.first as usize;
     match entry {
         b'a' => tree(source, room, table),
@@ -113,6 +143,7 @@ fn answer(entry: u8, source: &[u8], line: Line, table: &mut [u64]) {
         b'f' => print::answer_float(source),
         b'k' => listed(source, line, table),
         b'n' => node(source, line.first, table),
+        b's' => ranged(source, line, table),
         b't' => {
             print::answer_check(source, table);
         }
@@ -123,11 +154,11 @@ fn answer(entry: u8, source: &[u8], line: Line, table: &mut [u64]) {
 
 fn rest_of_line(behind: u8) -> Line {
     let first = number_behind(behind);
-    let list = number_behind(first.behind);
-    let rows = number_behind(list.behind);
+    let second = number_behind(first.behind);
+    let rows = number_behind(second.behind);
     Line {
         first: first.value,
-        list: list.value,
+        second: second.value,
         rows: rows.value,
     }
 }
@@ -149,7 +180,7 @@ fn case(buffer: &mut [u8], table: &mut [u64]) -> bool {
     if count < length {
         return false;
     }
-    answer(entry, &buffer[..length], line, table);
+    answer(entry, &mut buffer[..length], line, table);
     io::write_all(STDOUT_FILENO, b"\n");
     true
 }
@@ -168,6 +199,11 @@ fn answer_all(buffer: &mut [u8], table: &mut [u64]) {
 // Zeros for the rows.
 fn case_table() -> [u64; MOST_ROWS * rows::WIDTH] {
     [0; MOST_ROWS * rows::WIDTH]
+}
+
+// Zeros for the ranges.
+fn case_ranges() -> [u64; MOST_RANGES * salvage::WIDTH] {
+    [0; MOST_RANGES * salvage::WIDTH]
 }
 
 // Zeros for a constant's instructions.

@@ -72,7 +72,7 @@ put-behind a x₀ x₁ x₂ x₃ x₄ x₅ x₆ b n m r e f =
     ∙ sym (append-assoc a (numbers r) b)
 
 -- rows that fit a table of m rows stand one behind the other, and the rest of the table stays
-store-behind : (a b : List ℕ) (n m : ℕ) (rs : List grammar.Row) → length a ≡ n * width → length b ≡ m * width → length rs ≤ m → (c : List ℕ) × (store (a ++ b) n rs ≡ a ++ (flat rs ++ c)) × (length c + length rs * width ≡ length b)
+pub store-behind : (a b : List ℕ) (n m : ℕ) (rs : List grammar.Row) → length a ≡ n * width → length b ≡ m * width → length rs ≤ m → (c : List ℕ) × (store (a ++ b) n rs ≡ a ++ (flat rs ++ c)) × (length c + length rs * width ≡ length b)
 unfolding store
 store-behind a b n m [] e f h = (b, refl, omega arith)
 store-behind a (x₀ ∷ x₁ ∷ x₂ ∷ x₃ ∷ x₄ ∷ x₅ ∷ x₆ ∷ b) n m (r ∷ rs) e f h =

@@ -25,7 +25,7 @@ pub fn refused(table: &mut [u64], r: Refusal) -> Answer
 }
 
 // Zeros behind the rows, where there was room for them.
-fn counted(table: &mut [u64], size: usize, count: usize) -> Answer
+pub fn counted(table: &mut [u64], size: usize, count: usize) -> Answer
     ensures { λ a. ⌜ (a ≡ countedOf size count (room (length (now (table .entry))))) × (now (table .exit) ≡ keptRows (now (table .entry)) count) ⌝ }
 {
     if count <= table.len() / rows::WIDTH {

@@ -26,9 +26,11 @@ use Rattle.grammar.specs.Table.{a}
 use Rattle.grammar.specs.Kinds.{DECLARATION}
 use Rattle.grammar.specs.Language.{roto}
 use Rattle.grammar.specs.Readings.{Reading}
+use Rattle.grammar.proofs.Checks.{roto-full}
 use Rattle.answers.specs.Source.{source, lookOf, lookAfter, pieceOf}
 use Rattle.answers.proofs.Ahead.{Steps, steps-token, steps-over, steps-quote, steps-wrong, step-goes, tokens-take, pieces-take}
 use Rattle.keeping.specs.Kept.{Kept, none, more, Ends}
+use Rattle.keeping.proofs.Window.{roto-solid, within}
 use Rattle.keeping.proofs.Lists.{joined, kept-within}
 use Rattle.keeping.proofs.Fence.{Fence}
 use Rattle.keeping.proofs.Gap.{gap}
@@ -102,27 +104,30 @@ module _ (tests : Bool) where
   hole-is b = refl
 
   module _ (s t : List ℕ) (long : length s ≡ length t) where
-    -- what is kept up to a `}` or `;` at which two texts agree, and up to it
+    -- up to a `}` or `;` at which two texts agree, and before it, they show the same
+    module _ {m : ℕ} (f : Fenced s m) (same : (k : ℕ) → k < m → byteAt s k ≡ byteAt t k) where
+      upto : (k : ℕ) → k ≤ f .place → byteAt s k ≡ byteAt t k
+      upto k h = let e = f .behind in same k (omega arith)
+
+      looks : (x : Token) (i j : ℕ) → (source s) .look i ≡ found x j → length s - m ≤ length s - j → (source t) .look i ≡ found x j
+      looks x i j e b = look-upto s t (f .place) long upto (f .fence) (f .inside) x i j e (let u = look-in s x i j e in let v = f .behind in let w = f .inside in omega arith)
+
+      pieces : (x : Token) (i j : ℕ) → (source s) .piece i ≡ found x j → length s - m ≤ length s - j → (T (eqb (x .word) ((roto tests) .hole)) → length s - m < length s - j) → (source t) .piece i ≡ found x j
+      pieces x i j e b c =
+          let u = piece-in s x i j e in
+          let v = f .behind in
+          let w = f .inside in
+          piece-upto s t (f .place) long upto (f .fence) (f .inside) x i j e (omega arith) (λ h. let z = c (subst (λ (n : ℕ). T (eqb (x .word) n)) (sym (hole-is tests)) h) in omega arith)
+
+      -- a declaration that ends there or before is the same
+      pub declaration-upto : {i j : ℕ} {p : Parts} → Reading (source s) (roto tests) zeros (a DECLARATION ∷ []) i j p → length s - m ≤ length s - j → Reading (source t) (roto tests) zeros (a DECLARATION ∷ []) i j p
+      declaration-upto r h = within (roto tests) (roto-full tests) (roto-solid tests) ℕ ((source s) .look) ((source s) .piece) (λ i. length s - i) (tokens-take s) (pieces-keep s) ((source t) .look) ((source t) .piece) (length s - m) looks pieces r tt h
+
+    -- what is kept up to there
     pub kept-upto : {i m : ℕ} → (f : Fenced s m) → ((k : ℕ) → k < m → byteAt s k ≡ byteAt t k) → Kept (source s) (roto tests) i m → Kept (source t) (roto tests) i m
     kept-upto {m = m} f same k =
         kept-within tests ℕ ((source s) .look) ((source s) .piece) (λ i. length s - i) (tokens-take s) (pieces-keep s)
-        ((source t) .look) ((source t) .piece) (length s - m) looks pieces k (omega arith)
-      where
-        q : ℕ
-        q = f .place
-
-        upto : (k : ℕ) → k ≤ q → byteAt s k ≡ byteAt t k
-        upto k h = let e = f .behind in same k (omega arith)
-
-        looks : (x : Token) (i j : ℕ) → (source s) .look i ≡ found x j → length s - m ≤ length s - j → (source t) .look i ≡ found x j
-        looks x i j e b = look-upto s t q long upto (f .fence) (f .inside) x i j e (let u = look-in s x i j e in let v = f .behind in let w = f .inside in omega arith)
-
-        pieces : (x : Token) (i j : ℕ) → (source s) .piece i ≡ found x j → length s - m ≤ length s - j → (T (eqb (x .word) ((roto tests) .hole)) → length s - m < length s - j) → (source t) .piece i ≡ found x j
-        pieces x i j e b c =
-            let u = piece-in s x i j e in
-            let v = f .behind in
-            let w = f .inside in
-            piece-upto s t q long upto (f .fence) (f .inside) x i j e (omega arith) (λ h. let z = c (subst (λ (n : ℕ). T (eqb (x .word) n)) (sym (hole-is tests)) h) in omega arith)
+        ((source t) .look) ((source t) .piece) (length s - m) (looks f same) (pieces f same) k (omega arith)
 
     module _ (first line : ℕ) (inside : first < length s) (over-it : first ≤ line) (same : (i : ℕ) → i < first → byteAt s i ≡ byteAt t i) (blank : (i : ℕ) → first ≤ i → i < line → isClass Blank (byteAt t i) ≡ true) where
       -- t has blanks from the first token behind what is kept up to a line: what is kept before it and from that line on is kept together

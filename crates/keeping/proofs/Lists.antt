@@ -18,17 +18,17 @@ use Rattle.keeping.specs.Kept.{Kept, none, more, Ends}
 use Rattle.keeping.proofs.Window.{stream, roto-solid, on, takes, begins, moved, within}
 
 module _ (tests : Bool) (S : Stream) where
-  in-list : (b : Bool) → In (a DECLARATION ∷ a DECLARATIONS ∷ []) (alternatives (roto b) DECLARATIONS)
+  pub in-list : (b : Bool) → In (a DECLARATION ∷ a DECLARATIONS ∷ []) (alternatives (roto b) DECLARATIONS)
   unfolding roto
   in-list true = there here
   in-list false = there here
 
-  in-none : (b : Bool) → In [] (alternatives (roto b) DECLARATIONS)
+  pub in-none : (b : Bool) → In [] (alternatives (roto b) DECLARATIONS)
   unfolding roto
   in-none true = here
   in-none false = here
 
-  in-tree : (b : Bool) → In (a DECLARATIONS ∷ []) (alternatives (roto b) TREE)
+  pub in-tree : (b : Bool) → In (a DECLARATIONS ∷ []) (alternatives (roto b) TREE)
   unfolding roto
   in-tree true = here
   in-tree false = here

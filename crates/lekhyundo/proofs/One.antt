@@ -1,4 +1,4 @@
--- Two answers that the C functions of (a) and (b) permit coincide, and so do the tables; and so do two answers to a float, to a position, to a constant, and of C-21.
+-- Two answers that the C functions of (a) and (b) permit coincide, and so do the tables; and so do two answers to a float, to a position, to a constant, of C-21 and of C-23.
 use mathlib.Core.Path.{_≡_, sym, ap, _∙_}
 use mathlib.Core.List.{List}
 use mathlib.Core.Bool.{Bool, true, false}
@@ -14,12 +14,14 @@ use Rattle.constants.specs.declared.Constant.{Constant}
 use Rattle.constants.proofs.Answered as constants
 use Rattle.sheets.specs.declared.Checked.{Checked}
 use Rattle.sheets.proofs.Answered.{one-check, one-write}
-use Rattle.lekhyundo.specs.Numbers.{answerNumbers, floatNumbers, constantNumbers, checkedNumbers}
+use Rattle.salvage.proofs.One.{one-salvage}
+use Rattle.lekhyundo.specs.Numbers.{answerNumbers, floatNumbers, constantNumbers, checkedNumbers, salvagedNumbers}
 use Rattle.lekhyundo.specs.Entered.{Entered}
 use Rattle.lekhyundo.specs.Floated.{Floated}
 use Rattle.lekhyundo.specs.Searched.{Searched}
 use Rattle.lekhyundo.specs.Evaluated.{Evaluated}
 use Rattle.lekhyundo.specs.Tabled.{TableChecked, TableWritten}
+use Rattle.lekhyundo.specs.Salvaged.{Salvaged}
 
 pub one-entered : (tree : Bool) (s : List ℕ) (size : ℕ) {t u run x y : List ℕ} → Entered tree s size t run x → Entered tree s size u run y → (t ≡ u) × (x ≡ y)
 one-entered tree s size {run = run} a b =
@@ -42,3 +44,8 @@ one-table-checked file size {run = run} a b = let k = one-check true file size (
 
 pub one-table-written : (s : List ℕ) (size room : ℕ) {t u f g run x y : List ℕ} → TableWritten s size room t f run x → TableWritten s size room u g run y → (t ≡ u) × (f ≡ g) × (x ≡ y)
 one-table-written s size room {run = run} a b = let k = one-write false s size room (a .permitted) (b .permitted) in (k .1, k .2, a .numbers ∙ ap (λ (q : Answer). sets run 0 (answerNumbers q)) (k .0) ∙ sym (b .numbers))
+
+pub one-salvaged : (s : List ℕ) (size room : ℕ) {t u l m v w run x y : List ℕ} → Salvaged s size room t l v run x → Salvaged s size room u m w run y → (t ≡ u) × (l ≡ m) × (v ≡ w) × (x ≡ y)
+one-salvaged s size room {run = run} a b =
+    let k = (one-salvage false s size room) .one (a .permitted) (b .permitted) in
+    (k .2, k .3, k .4, a .numbers ∙ (λ i. sets run 0 (salvagedNumbers (k .0 i) (k .1 i))) ∙ sym (b .numbers))

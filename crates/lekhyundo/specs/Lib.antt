@@ -4,3 +4,4 @@ pub mod Floated
 pub mod Searched
 pub mod Evaluated
 pub mod Tabled
+pub mod Salvaged

@@ -23,3 +23,7 @@ constantNumbers len c = answerNumbers (answerOf len c) ++ (typeFor c ∷ valueBi
 -- how many rows of a file are tests, behind its answer
 unfoldable pub checkedNumbers : Checked → List ℕ
 checkedNumbers c = c .number ∷ c .start ∷ c .end ∷ c .count ∷ c .tests ∷ []
+
+-- how many ranges were dropped, behind the answer
+unfoldable pub salvagedNumbers : Answer → ℕ → List ℕ
+salvagedNumbers a n = a .number ∷ a .start ∷ a .end ∷ a .count ∷ n ∷ []

@@ -16,6 +16,7 @@ ghost use Rattle.lekhyundo.specs.Floated.{Floated};
 ghost use Rattle.lekhyundo.specs.Searched.{Searched};
 ghost use Rattle.lekhyundo.specs.Evaluated.{Evaluated};
 ghost use Rattle.lekhyundo.specs.Tabled.{TableChecked, TableWritten};
+ghost use Rattle.lekhyundo.specs.Salvaged.{Salvaged};
 use chars::Answer;
 use reader::entries;
 use tokens::Cursor;
@@ -215,4 +216,22 @@ pub extern "C" fn lekhyundo_table_write(
 {
     let a = sheets::write(s, table, file);
     put_answer(answer, a);
+}
+
+// C-23: a broken source salvaged: spaces for what is dropped, the rows and the dropped ranges in lent tables; number, start, end, count, ranges.
+#[no_mangle]
+pub extern "C" fn lekhyundo_salvage(
+    s: &mut [u8],
+    table: &mut [u64],
+    ranges: &mut [u64],
+    answer: &mut [u64],
+)
+    ensures { λ r. ⌜ Salvaged (now (s .entry)) (length (now (table .entry))) (length (now (ranges .entry))) (now (s .exit)) (now (table .exit)) (now (ranges .exit)) (now (answer .entry)) (now (answer .exit)) ⌝ }
+{
+    let a = salvage::salvage(s, table, ranges);
+    put(answer, 0, a.number);
+    put(answer, 1, a.start as u64);
+    put(answer, 2, a.end as u64);
+    put(answer, 3, a.count as u64);
+    put(answer, 4, a.ranges as u64);
 }

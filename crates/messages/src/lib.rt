@@ -67,17 +67,19 @@ fn expectation(out: &mut [u8], at: usize, list: &[u8], items: Items) -> usize {
     text::put(out, n, b'\n')
 }
 
-// What is lent for one report: the source up to the place and a word more, the words that could stand there, their list.
+// What is lent for one report: the source up to the place and a word more, the words that could stand there, their list. Words are tried behind
+// what stands between a place, where declarations begin, and the refusal's.
 fn reported(
     name: &[u8],
     s: &[u8],
+    from: usize,
     a: Answer,
     room: &mut [u8],
     flags: &mut [u8],
     list: &mut [u8],
     out: &mut [u8],
 ) -> usize {
-    let count = text::part(room, 0, Form::Raw, s, 0, a.start);
+    let count = text::part(room, 0, Form::Raw, s, from, a.start);
     let items = expected(a, room, count, flags, list, false);
     let mut n = head(out, name, s, a);
     n = causes::message(out, n, s, a, room, count, flags);
@@ -89,9 +91,21 @@ fn reported(
 // A refusal as lines of text: place and message, the line, carets under the place, what could stand there. The room is for the source and a
 // word more.
 pub fn report(name: &[u8], s: &[u8], a: Answer, room: &mut [u8], out: &mut [u8]) -> usize {
+    report_from(name, s, 0, a, room, out)
+}
+
+// The same of a declaration that begins at a place: what stands before it isn't read.
+pub fn report_from(
+    name: &[u8],
+    s: &[u8],
+    from: usize,
+    a: Answer,
+    room: &mut [u8],
+    out: &mut [u8],
+) -> usize {
     let mut flags = [0u8; words::COUNT];
     let mut list = io::buffer();
-    reported(name, s, a, room, &mut flags, &mut list, out)
+    reported(name, s, from, a, room, &mut flags, &mut list, out)
 }
 
 // `"KEY":NUMBER,`.

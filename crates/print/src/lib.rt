@@ -2,6 +2,7 @@
 ghost use Prim.Native.Nat.{_+_, _≤_};
 ghost use lib.ListN.{length};
 ghost use Rattle.rows.specs.Rows.{width};
+ghost use Rattle.salvage.specs.Answers.{rangeWidth};
 use chars::Answer;
 use chars::refusal;
 use libc::STDOUT_FILENO;
@@ -297,4 +298,45 @@ pub fn answer_file(s: &[u8], table: &mut [u64], file: &mut [u8]) -> bool {
         head(a);
     }
     false
+}
+
+// A dropped range: its ends, and its refusal's number and place.
+fn range_line(ranges: &[u64], at: usize)
+    requires { ⌜ at + rangeWidth ≤ length (now ranges) ⌝ }
+{
+    io::write_all(STDOUT_FILENO, b"range");
+    number(ranges[at]);
+    number(ranges[at + 1]);
+    number(ranges[at + 2]);
+    number(ranges[at + 3]);
+    number(ranges[at + 4]);
+    io::write_all(STDOUT_FILENO, b"\n");
+}
+
+// The ranges from the front on, a line each, as far as the table reaches.
+fn range_lines(ranges: &[u64], count: usize) {
+    let mut i = 0;
+    while i < count {
+        if i < ranges.len() / salvage::WIDTH {
+            range_line(ranges, i * salvage::WIDTH);
+        }
+        i += 1;
+    }
+}
+
+// C-23: a broken source salvaged: `accepted ROWS RANGES`, the dropped ranges and the rows; or the refusal.
+pub fn answer_salvage(s: &mut [u8], table: &mut [u64], ranges: &mut [u64]) {
+    let a = salvage::salvage(s, table, ranges);
+    if a.number == refusal::NONE {
+        accepted(a.count as u64, a.ranges as u64);
+        range_lines(ranges, a.ranges);
+        row_lines(table, a.count);
+        return;
+    }
+    head(Answer {
+        number: a.number,
+        start: a.start,
+        end: a.end,
+        count: a.count,
+    });
 }

@@ -3,16 +3,11 @@ ghost use mathlib.Core.Bool.{true, false};
 ghost use lib.ListN.{length};
 ghost use Rattle.answers.specs.Entries.{Permitted};
 ghost use Rattle.entry.specs.Puts.{Puts};
-ghost use Rattle.reader.specs.Through.{BreakOf};
 use chars::Answer;
-use chars::MOST_BYTES;
-use chars::refusal;
 use entry::answer;
 use entry::answer_put;
 use entry::refused;
-use parser::Read;
 use rows::WIDTH;
-use tokens::Refusal;
 use tokens::Whole;
 
 // (a): a source to its tree. The table is handed on without what is left over behind its rows: it is none to compare with.
@@ -53,37 +48,5 @@ pub fn put_rows(s: &[u8], table: &mut [u64]) -> Answer
             let r = super::tree(s, table, true);
             answer_put(table, s.len(), r)
         }
-    }
-}
-
-// C-23: declarations stand up to the end; or up to what is none, which starts at a byte, with the refusal that is met in it.
-pub enum Break {
-    End,
-    At(usize, Refusal),
-}
-
-// How the declarations from a place on end.
-pub fn broken(s: &[u8], at: usize) -> Break
-    ensures { λ r. ⌜ BreakOf (now (s .entry)) at r ⌝ }
-{
-    if MOST_BYTES < s.len() {
-        return Break::At(
-            0,
-            Refusal {
-                number: refusal::TOO_LONG,
-                start: MOST_BYTES,
-                end: MOST_BYTES,
-            },
-        );
-    }
-    if s.len() < at {
-        return Break::End;
-    }
-    let mut rows: [u64; 0] = [0; 0];
-    let r = super::to_end(s, &mut rows, at, false);
-    let read = r.read;
-    match read {
-        Read::Done(_, _) => Break::End,
-        Read::Refused(why) => Break::At(r.first, why),
     }
 }

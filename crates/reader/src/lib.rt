@@ -5,7 +5,6 @@ ghost use mathlib.Core.Bool.{true, false};
 ghost use mathlib.Core.Logic.{_≢_};
 ghost use Prim.Native.Nat.{_+_, _≤_, _<_};
 ghost use lib.Dec.{T};
-ghost use lib.ListN.{length};
 ghost use Rattle.grammar.specs.Words.{names, path-items, literals, return-words, f-quote, '!', '-', dot, open-paren, close-paren, 'let', 'if'};
 ghost use Rattle.grammar.specs.Grammar.{one-of};
 ghost use Rattle.grammar.specs.Kinds.{BLOCK, LET, LITERAL, PARENS, BRACES, FIELD, EXPRS, FOUR, ARM, EXPR, OPERAND, F-STRING};
@@ -14,7 +13,6 @@ ghost use Rattle.parser.specs.Counted.{counts};
 ghost use Rattle.parser.specs.Going.{Stands, Answers};
 ghost use Rattle.promises.specs.Firsts.{postfixSigns, joinedRead, joinedTable, looserThan, armEnd, onward, few};
 ghost use Rattle.promises.specs.Promises.{the, Anyhow, Listed, Guarded, LEVEL, Atom, Behind, AnyBehind, Fielded, Headed, afterIf, afterMatch, NamedIn, Tested, Elsed, linked, OneArm, Bodied, Stated, Statement, BeyondStatement, Beyond, Finished};
-ghost use Rattle.reader.specs.Through.{ToEnd};
 use chars::MOST_BYTES;
 use chars::refusal;
 use declarations::declaration;
@@ -38,12 +36,10 @@ use parser::plain_row;
 use parser::refuse;
 use parser::take;
 use parser::unusable;
-use parts::Ending;
 use parts::around;
 use parts::braced;
 use parts::detail_row;
 use parts::ended;
-use parts::ended_at;
 use parts::last_arm;
 use parts::part;
 use parts::valued_row;
@@ -73,7 +69,7 @@ use words::is_sign;
 use words::return_detail;
 use words::sign_kind;
 
-mod declarations;
+pub mod declarations;
 pub mod entries;
 mod imports;
 mod names;
@@ -1001,38 +997,28 @@ fn let_stmt(s: &[u8], table: &mut [u64], here: Here, limits: Limits) -> Read
     finish(table, row, next, here.rows)
 }
 
-// Declarations from a place up to the end of the source, and the tree's row over them. `tests`: by the old grammar, in which `test` is one (C-22).
-fn to_end(s: &[u8], table: &mut [u64], at: usize, tests: bool) -> Ending
-    requires { ⌜ (length (now s) ≤ 65535) × (at ≤ length (now s)) ⌝ }
-    ensures { λ r. ⌜ ToEnd tests (now (s .entry)) at (now (table .entry)) (r .first) (r .read) (now (table .exit)) ⌝ }
-{
-    let limits = Limits::all();
-    let mut here = look(s, Cursor { at }, 0);
-    let mut children: u64 = 0;
-    while begins_declaration(here.word(), tests) {
-        let r = declaration(s, table, here, limits);
-        let Read::Done(_, next) = r else {
-            return ended_at(here, r);
-        };
-        here = next;
-        children += 1;
-    }
-    if here.word() != word::NONE {
-        return ended_at(here, unusable(here));
-    }
-    let r = finish(table, plain_row(kind::TREE, 0, s.len(), children), here, 0);
-    ended_at(here, r)
-}
-
-// A whole source.
+// Declarations up to the end of the source, and the tree's row over them. `tests`: by the old grammar, in which `test` is one (C-22).
 fn tree(s: &[u8], table: &mut [u64], tests: bool) -> Read
     ensures { λ r. ⌜ Finished tests true (now (s .entry)) (now (table .entry)) r (now (table .exit)) ⌝ }
 {
     if MOST_BYTES < s.len() {
         return refuse(refusal::TOO_LONG, MOST_BYTES, MOST_BYTES);
     }
-    let r = to_end(s, table, 0, tests);
-    r.read
+    let limits = Limits::all();
+    let mut here = look(s, Cursor::new(), 0);
+    let mut children: u64 = 0;
+    while begins_declaration(here.word(), tests) {
+        let r = declaration(s, table, here, limits);
+        let Read::Done(_, next) = r else {
+            return r;
+        };
+        here = next;
+        children += 1;
+    }
+    if here.word() != word::NONE {
+        return unusable(here);
+    }
+    finish(table, plain_row(kind::TREE, 0, s.len(), children), here, 0)
 }
 
 // One expression and the end of the source.

@@ -4,7 +4,7 @@ ghost use lib.ListN.{getD};
 ghost use Rattle.grammar.specs.Words.{close-brace};
 ghost use Rattle.parser.specs.declared.Read.the-variants.{Done};
 ghost use Rattle.promises.specs.Firsts.{partOf, endedBy, lastArm};
-ghost use Rattle.parser.specs.Places.{startOf, endOf};
+ghost use Rattle.parser.specs.Places.{endOf};
 ghost use Rattle.promises.specs.Promises.{Closed, overRead, overTable};
 use parser::Arm;
 use parser::Here;
@@ -15,7 +15,6 @@ use parser::expect;
 use parser::finish;
 use rows::Row;
 use rows::kind;
-use tokens::Step;
 use tokens::word;
 
 // A part of a phrase that a reader tells of by the rows it has, where the phrase goes on at `here`.
@@ -31,25 +30,6 @@ pub fn part(children: u64, here: Here) -> Read
         },
         here,
     )
-}
-
-// Where the last thing that was looked at starts, and the answer.
-pub struct Ending {
-    pub first: usize,
-    pub read: Read,
-}
-
-pub fn ended_at(here: Here, read: Read) -> Ending
-    ensures { λ r. ⌜ (r .first ≡ startOf here) × (r .read ≡ read) ⌝ }
-{
-    let step = here.step;
-    match step {
-        Step::Taken(_, start, _) => Ending { first: start, read },
-        Step::Refused(why) => Ending {
-            first: why.start,
-            read,
-        },
-    }
 }
 
 // A statement behind its `;`.

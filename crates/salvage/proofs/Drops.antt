@@ -24,9 +24,9 @@ use Rattle.answers.specs.Entries.{Permitted}
 use Rattle.entry.proofs.Stored.{zeroed-all, zeroed-behind}
 use Rattle.keeping.specs.Kept.{Ends}
 use Rattle.keeping.specs.Breaks.{Breaks}
-use Rattle.reader.specs.declared.entries.Break.{Break}
-use Rattle.reader.specs.Through.{BreakIs, BreakOf}
+use Rattle.salvage.specs.declared.Break.{Break}
 use Rattle.salvage.specs.Salvage.{endOf, blanked, Range, range, Salvage, whole, drops}
+use Rattle.salvage.specs.Rows.{Upto, Through, ReachesIs, Reaches}
 use Rattle.salvage.specs.Answers.{roomFor, flatRanges, Salvages, early, many-rows, many-ranges, accepts}
 use Rattle.salvage.specs.Steps.{rangeNumbers, noted, Drops, Left, Keeps}
 use Rattle.salvage.proofs.Blanked.{blanked-length}
@@ -109,13 +109,13 @@ search-in first start h = rw (lt-ltb first start h) refl
 pub search-out : (first start : ℕ) → start ≤ first → first + 1 ≡ cond (ltb first start) start (first + 1)
 search-out first start h = rw (le-ltb first start h) refl
 
--- what `broken` says
-module _ {s : List ℕ} {i : ℕ} {r : Break} (b : BreakOf s i r) (h : length s ≤ 65535) where
-  pub ended : r ≡ Break.End → Ends (source s) (roto false) i
-  ended e = subst (BreakIs s i) e (b .short h)
+-- how the declarations end
+module _ {s : List ℕ} {i : ℕ} {t : List ℕ} {n c : ℕ} {r : Break} {t′ : List ℕ} (b : Reaches s i t n c r t′) where
+  pub ended : r ≡ Break.End → Ends (source s) (roto false) i × Through s t′ n c
+  ended e = subst (ReachesIs s i t′ n c) e (b .is)
 
-  pub broke : {first : ℕ} {why : lexer.Refusal} → r ≡ Break.At first why → Breaks false s i first (plainly why)
-  broke e = subst (BreakIs s i) e (b .short h)
+  pub broke : {first : ℕ} {why : lexer.Refusal} → r ≡ Break.At first why → (b : Breaks false s i first (plainly why)) × Upto s (b .behind) t′ n c
+  broke e = subst (ReachesIs s i t′ n c) e (b .is)
 
 -- which of the tables is kept
 module _ (t v : List ℕ) {x : Answer} {n : ℕ} {y : Answer} {m : ℕ} {t′ v′ : List ℕ} where

@@ -10,3 +10,7 @@ pub mod Some
 pub mod Lines
 pub mod Stores
 pub mod Drops
+pub mod Rows
+pub mod Written
+pub mod Onward
+pub mod Next

@@ -1,26 +1,40 @@
 // C-23, salvage a broken file: what is refused is dropped, up to the next line that begins as a declaration does, and the rest is read.
 ghost use mathlib.Core.Path.{_≡_};
 ghost use mathlib.Core.Bool.{false, cond};
-ghost use Prim.Native.Nat.{_+_, _≤_, _<_};
+ghost use Prim.Native.Nat.{_+_, _*_, _/_, _≤_, _<_};
 ghost use lib.Dec.{ltb};
 ghost use lib.ListN.{length};
+ghost use Rattle.rows.specs.Rows.{width};
 ghost use Rattle.tokens.specs.Words.{nameWord};
 ghost use Rattle.tokens.specs.Rules.{nameAt};
 ghost use Rattle.grammar.specs.Grammar.{one-of};
+ghost use Rattle.parser.specs.Places.{startOf};
+ghost use Rattle.parser.specs.Going.{Stands};
 ghost use Rattle.salvage.specs.Salvage.{line-words, isLineWord, lineAt, nextLine, blanked};
 ghost use Rattle.salvage.specs.Answers.{Salvages};
 ghost use Rattle.salvage.specs.Steps.{noted, Left, answerOf, Keeps};
+ghost use Rattle.salvage.specs.Rows.{partFrom, freshly, Declares, brokenBy, Upto, Reaches, Through, Treed};
 use chars::Answer;
 use chars::refusal;
+use entry::counted;
 use entry::refused;
-use reader::entries::Break;
-use reader::entries::broken;
-use reader::entries::tree;
+use parser::Here;
+use parser::Limits;
+use parser::Read;
+use parser::look;
+use parser::plain_row;
+use parser::unusable;
+use reader::declarations::declaration;
+use rows::kind;
+use tokens::Cursor;
 use tokens::Refusal;
+use tokens::Step;
 use tokens::Whole;
+use tokens::word;
+use words::begins_declaration;
 
 // The numbers of a range: its first byte and its end, and its refusal's number and place.
-const WIDTH: usize = 5;
+pub const WIDTH: usize = 5;
 
 const NEWLINE: u16 = 10;
 
@@ -125,24 +139,149 @@ fn search_from(first: usize, start: usize) -> usize
     first + 1
 }
 
-// Drops what is broken, up to the end: how many ranges.
-fn drop_broken(s: &mut [u8], ranges: &mut [u64]) -> usize
-    requires { ⌜ length (now s) ≤ 65535 ⌝ }
-    ensures { λ n. ⌜ Left (now (s .entry)) (now (ranges .entry)) (now (s .exit)) (now (ranges .exit)) n ⌝ }
+// Where the table goes on behind so many rows: at its end, where it has no room for them.
+fn part_from(size: usize, rows: usize) -> usize
+    ensures { λ r. ⌜ r ≡ partFrom size rows ⌝ }
+{
+    if rows <= size / rows::WIDTH {
+        return rows * rows::WIDTH;
+    }
+    size
+}
+
+// A declaration whose rows go behind so many: what it leaves there if it is refused stands behind them too.
+fn declare(s: &[u8], table: &mut [u64], here: Here, rows: usize) -> Read
+    requires { ⌜ Stands (now s) here ⌝ }
+    ensures { λ r. ⌜ Declares (now (s .entry)) here (now (table .entry)) rows r (now (table .exit)) ⌝ }
+{
+    let from = part_from(table.len(), rows);
+    declaration(s, &mut table[from..], here, Limits::all())
+}
+
+// The same place, with no row written.
+fn afresh(here: Here) -> Here
+    ensures { λ r. ⌜ r ≡ freshly here ⌝ }
+{
+    let step = here.step;
+    Here {
+        step,
+        place: here.place,
+        rows: 0,
+    }
+}
+
+// Declarations stand up to the end; or up to what is none, which starts at a byte, with the refusal that is met in it.
+pub enum Break {
+    End,
+    At(usize, Refusal),
+}
+
+fn start_of(here: Here) -> usize
+    ensures { λ r. ⌜ r ≡ startOf here ⌝ }
+{
+    let step = here.step;
+    match step {
+        Step::Taken(_, start, _) => start,
+        Step::Refused(why) => why.start,
+    }
+}
+
+fn broken_by(here: Here, read: Read) -> Break
+    ensures { λ r. ⌜ r ≡ brokenBy here read ⌝ }
+{
+    match read {
+        Read::Done(_, _) => Break::End,
+        Read::Refused(why) => Break::At(start_of(here), why),
+    }
+}
+
+// How many rows and declarations are kept, and how the declarations end.
+struct Reached {
+    rows: usize,
+    children: u64,
+    end: Break,
+}
+
+// Declarations from a place on, behind so many rows of so many others.
+fn read_on(s: &[u8], table: &mut [u64], at: usize, before: usize, others: u64) -> Reached
+    requires { ⌜ (length (now s) ≤ 65535) × Upto (now s) at (now table) before others ⌝ }
+    ensures { λ r. ⌜ Reaches (now (s .entry)) at (now (table .entry)) (r .rows) (r .children) (r .end) (now (table .exit)) ⌝ }
+{
+    let mut here = look(s, Cursor { at }, 0);
+    let mut rows = before;
+    let mut children = others;
+    while begins_declaration(here.word(), false) {
+        let r = declare(s, table, here, rows);
+        let Read::Done(_, next) = r else {
+            return Reached {
+                rows,
+                children,
+                end: broken_by(here, r),
+            };
+        };
+        rows += next.rows;
+        children += 1;
+        here = afresh(next);
+    }
+    if here.word() != word::NONE {
+        return Reached {
+            rows,
+            children,
+            end: broken_by(here, unusable(here)),
+        };
+    }
+    Reached {
+        rows,
+        children,
+        end: Break::End,
+    }
+}
+
+// How many rows and declarations are kept, and how many ranges are dropped.
+struct Totals {
+    rows: usize,
+    children: u64,
+    ranges: usize,
+}
+
+// Reads what is whole and drops what is broken, up to the end.
+fn drop_broken(s: &mut [u8], table: &mut [u64], ranges: &mut [u64]) -> Totals
+    requires { ⌜ (length (now s) ≤ 65535) × (length (now table) / width * width ≡ length (now table)) ⌝ }
+    ensures { λ r. ⌜ Left (now (s .entry)) (now (ranges .entry)) (now (s .exit)) (now (ranges .exit)) (r .ranges) × Through (now (s .exit)) (now (table .exit)) (r .rows) (r .children) × (length (now (table .exit)) ≡ length (now (table .entry))) ⌝ }
 {
     let mut at = 0;
+    let mut rows = 0;
+    let mut children = 0;
     let mut count = 0;
     loop {
-        let r = broken(s, at);
-        let Break::At(first, why) = r else {
-            return count;
+        let r = read_on(s, table, at, rows, children);
+        rows = r.rows;
+        children = r.children;
+        let end = r.end;
+        let Break::At(first, why) = end else {
+            return Totals {
+                rows,
+                children,
+                ranges: count,
+            };
         };
-        let end = next_line(s, search_from(first, why.start));
-        note(ranges, count, first, end, why);
-        blank(s, first, end);
-        at = end;
+        let line = next_line(s, search_from(first, why.start));
+        note(ranges, count, first, line, why);
+        blank(s, first, line);
+        at = line;
         count += 1;
     }
+}
+
+// The rows of what is kept and the tree's behind them, in the part of the table that rows have.
+fn read_kept(s: &mut [u8], table: &mut [u64], ranges: &mut [u64]) -> Totals
+    requires { ⌜ (length (now s) ≤ 65535) × (length (now table) / width * width ≡ length (now table)) ⌝ }
+    ensures { λ r. ⌜ Left (now (s .entry)) (now (ranges .entry)) (now (s .exit)) (now (ranges .exit)) (r .ranges) × Treed (now (s .exit)) (now (table .entry)) (now (table .exit)) (r .rows) ⌝ }
+{
+    let kept = drop_broken(s, table, ranges);
+    let row = plain_row(kind::TREE, 0, s.len(), kept.children);
+    rows::put(table, kept.rows, row, (kept.rows + 1) as u64);
+    kept
 }
 
 fn with_ranges(a: Answer, ranges: usize) -> Salvaged
@@ -191,9 +330,10 @@ pub fn salvage(s: &mut [u8], table: &mut [u64], ranges: &mut [u64]) -> Salvaged
             with_ranges(refused(table, why), 0)
         }
         Whole::Fine => {
-            let count = drop_broken(s, ranges);
-            let read = tree(s, table);
-            kept(table, ranges, read, count)
+            let whole = table.len() / rows::WIDTH * rows::WIDTH;
+            let all = read_kept(s, &mut table[..whole], ranges);
+            let read = counted(table, s.len(), all.rows + 1);
+            kept(table, ranges, read, all.ranges)
         }
     }
 }

@@ -122,6 +122,13 @@ fn one(r: &mut Random, entry: u8) -> Vec<u8> {
     text.out
 }
 
+/// A short declaration, its word first.
+pub fn short(r: &mut Random) -> Vec<u8> {
+    let mut text = Text { r, out: Vec::new(), budget: 6, ban: false };
+    text.declaration();
+    text.out.trim_ascii_start().to_vec()
+}
+
 struct Text<'a> {
     r: &'a mut Random,
     out: Vec<u8>,

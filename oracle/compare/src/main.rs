@@ -1,5 +1,6 @@
 //! Cases made up in many ways, answered by two programs, compared.
 
+mod broken;
 mod causes;
 mod constants;
 mod culprits;
@@ -33,8 +34,9 @@ Modes:
   constants COUNT SEED           constants, typed and mistyped (entry k, as the two below)
   pairs                          pairs of edge values of each type under each operator: of 8 bits all, 25 to 106 of each wider type
   shapes                         chains, brackets and runs of signs of about 1,024 rows
+  broken COUNT SEED              declarations cut, joined, interleaved, with quotes and brackets that nothing closes (entry s)
 Options:
-  -e ENTRY        a, b, c, e, f, k, p or w (else c for exhaustive and random, b for tokens, a and b by turns for the others)
+  -e ENTRY        a, b, c, e, f, k, p, s or w (else c for exhaustive and random, b for tokens, a and b by turns for the others)
   --list TOKENS   tokens for `tokens` instead of its own, a space between; \\x20 and the like stand for bytes
   --between TEXT  put between the tokens of a text instead of a space
   --before TEXT   put before each text of `tokens`
@@ -144,6 +146,7 @@ fn generate(all: &Arguments, sink: &mut Sink) {
         ["valid", count, seed] => grammar::random(sink, entry, number(count), number(seed), false),
         ["damaged", count, seed] => grammar::random(sink, entry, number(count), number(seed), true),
         ["constants", count, seed] => constants::random(sink, number(count), number(seed)),
+        ["broken", count, seed] => broken::random(sink, number(count), number(seed)),
         ["pairs"] => constants::pairs(sink),
         ["shapes"] => constants::shapes(sink),
         ["values", count, seed] => values::random(sink, entry, number(count), number(seed)),

@@ -106,6 +106,9 @@ pub struct Report {
     exact_room: u64,
     one_short: u64,
     recounted: u64,
+    /// Sources of which something was dropped, and the ranges.
+    salvaged: u64,
+    ranges: u64,
     /// The kinds of value that constants have.
     values: BTreeMap<String, u64>,
     classes: BTreeMap<String, (u64, String)>,
@@ -268,8 +271,13 @@ impl Report {
                 return;
             }
             self.exact_room += u64::from(case.room() == said.first().copied());
+            if case.entry == b's' {
+                let dropped = said.get(1).copied().unwrap_or(0);
+                self.salvaged += u64::from(dropped > 0);
+                self.ranges += dropped;
+            }
             if case.entry != b'e' {
-                for line in lines {
+                for line in lines.filter(|line| !line.starts_with(b"range")) {
                     if let Some(number) = numbers(line).next() {
                         *self.first_numbers.entry(number).or_default() += 1;
                     }
@@ -308,6 +316,7 @@ impl Report {
         println!("  codes or kinds in accepted answers: {}", seen.join(", "));
         println!("  room exact: {}, one too small: {}", self.exact_room, self.one_short);
         println!("  tables with all sizes recounted: {}", self.recounted);
+        println!("  salvaged with something dropped: {}, ranges: {}", self.salvaged, self.ranges);
         println!("{} differences", self.differences);
     }
 }

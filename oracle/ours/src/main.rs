@@ -1,6 +1,9 @@
 //! Our own code behind the protocol: the compiled Rattle library, called as C calls it.
 
-use lekhyundo::sys::{self, Entry, Token};
+use lekhyundo::{
+    MOST_RANGES, MOST_ROWS,
+    sys::{self, Entry, Token},
+};
 use protocol::{
     Case, Constant, NotThere, Refusal, WIDTH, serve, time, write_bytes, write_constant, write_no_room, write_pair, write_refusal, write_row,
 };
@@ -269,6 +272,67 @@ fn write(case: &Case<'_>, out: &mut String) {
     write_lent(answer, &bytes, case.room, out);
 }
 
+/// The numbers of a range: its ends, its refusal's number and place.
+const RANGE: usize = 5;
+
+fn salvaged(source: &mut [u8], table: &mut [u64], ranges: &mut [u64]) -> [u64; 5] {
+    let mut answer = [u64::MAX; 5];
+    // SAFETY: as above.
+    unsafe {
+        sys::lekhyundo_salvage(
+            source.as_mut_ptr(), source.len(), table.as_mut_ptr(), table.len(), ranges.as_mut_ptr(), ranges.len(), answer.as_mut_ptr(),
+            answer.len(),
+        )
+    };
+    answer
+}
+
+/// C-23: a broken source, in tables that are not zeros before, with numbers behind the last whole row and range. What is left of both must be
+/// zeros, and in the source the bytes of the ranges must be spaces and all others what they were.
+fn salvage(case: &Case<'_>, out: &mut String) {
+    let length = case.source.len();
+    let mut text = case.source.to_vec();
+    // No source has more than three rows to two bytes, and one, nor more than a range to three bytes, and one.
+    let mut table = vec![0xa5u64; case.room.min(length as u64 * 3 / 2 + 2) as usize * WIDTH + length % WIDTH];
+    let mut ranges = vec![0xa5u64; case.list.min(length as u64 / 3 + 2) as usize * RANGE + length % RANGE];
+    let [number, start, end, count, dropped] = salvaged(&mut text, &mut table, &mut ranges);
+    let (rows, listed) = if number == 0 { (count as usize, dropped as usize) } else { (0, 0) };
+    let mut left = case.source.to_vec();
+    match number {
+        0 => {
+            out.push_str(&format!("accepted {rows} {listed}\n"));
+            for range in ranges[..listed * RANGE].chunks_exact(RANGE) {
+                left[range[0] as usize..range[1] as usize].fill(b' ');
+                out.push_str("range ");
+                write_row(out, range);
+            }
+            table[..rows * WIDTH].chunks_exact(WIDTH).for_each(|row| write_row(out, row));
+        }
+        10 => {
+            write_no_room(out, count);
+            left = with_room(case.source);
+        }
+        _ => write_refusal(out, Refusal { number, start, end }),
+    }
+    let place_fits = match number {
+        0 => (start, end) == (0, length as u64),
+        10 => (start, end, dropped) == (0, 0, 0),
+        _ => (count, dropped) == (0, 0),
+    };
+    let zeros = table[rows * WIDTH..].iter().chain(&ranges[listed * RANGE..]).all(|&number| number == 0);
+    if !place_fits || !zeros || text != left {
+        out.push_str(&format!("number {number} has place {start} {end}, counts {count} {dropped}; or what is left is something else\n"));
+    }
+}
+
+/// What is left of a source where there is room for all.
+fn with_room(source: &[u8]) -> Vec<u8> {
+    let mut text = source.to_vec();
+    let most = source.len() * 3 / 2 + 2;
+    salvaged(&mut text, &mut vec![0; most * WIDTH], &mut vec![0; most * RANGE]);
+    text
+}
+
 /// Into a list of exactly the tokens that there are.
 fn time_tokens(arguments: &[String]) -> std::io::Result<()> {
     let list = std::cell::RefCell::new(Vec::new());
@@ -297,17 +361,32 @@ fn time_trees(arguments: &[String]) -> std::io::Result<()> {
     })
 }
 
+/// Into tables with room for anything; what is counted are the dropped ranges.
+fn time_salvages(arguments: &[String]) -> std::io::Result<()> {
+    let tables = std::cell::RefCell::new((vec![0; MOST_ROWS * WIDTH], vec![0; MOST_RANGES * RANGE]));
+    let made = |source: &[u8]| {
+        let (table, ranges) = &mut *tables.borrow_mut();
+        let most = (source.len() * 3 / 2 + 1).min(MOST_ROWS) * WIDTH;
+        salvaged(&mut source.to_vec(), &mut table[..most], ranges)[4]
+    };
+    time(arguments, made, |source| {
+        made(source);
+    })
+}
+
 fn main() -> std::io::Result<()> {
     let arguments: Vec<String> = std::env::args().skip(1).collect();
     match arguments.first().map(String::as_str) {
         Some("tokens") => time_tokens(&arguments[1..]),
         Some("trees") => time_trees(&arguments[1..]),
+        Some("salvages") => time_salvages(&arguments[1..]),
         _ => serve(|case, out| match case.entry {
             b'a' | b'b' => rows(case, out),
             b'c' => token_list(case, out),
             b'f' => float(case, out),
             b'k' => constant(case, out),
             b'n' => node(case, out),
+            b's' => salvage(case, out),
             b't' => check(case, out),
             b'w' => write(case, out),
             _ => decode(case, out),

@@ -39,11 +39,11 @@ same-length c = search needs
 returns-3 : tie.Need-returns-3
 returns-3 c = search needs
 
-slice-reshare-prefix-answer : tie.Need-slice-reshare-prefix-answer
-slice-reshare-prefix-answer c = search needs
+slice-relend-prefix-answer : tie.Need-slice-relend-prefix-answer
+slice-relend-prefix-answer c = search needs
 
 slice-aggregate-answer : tie.Need-slice-aggregate-answer
-slice-aggregate-answer c = sym (length-take-le _ _ (slice-reshare-prefix-answer (c .before)))
+slice-aggregate-answer c = sym (length-take-le _ _ (slice-relend-prefix-answer (c .before)))
 
 answer-requires : tie.Need-answer-requires
 answer-requires c κs = search needs
@@ -78,7 +78,7 @@ case-spec =
     read-full-requires
     same-length
     returns-3
-    slice-reshare-prefix-answer
+    slice-relend-prefix-answer
     slice-aggregate-answer
     answer-requires
     slice-aggregate-write-all

@@ -1,6 +1,11 @@
 use mathlib.Core.Path.{sym, _∙_}
+use mathlib.Core.Bool.{false}
+use native.Mathlib.Omega.{arith}
+use lib.Seq.{length-take-le}
 use Rattle.salvage.proofs.Fine.{short}
+use Rattle.salvage.proofs.Fresh.{is-fresh}
 use Rattle.salvage.proofs.Drops.{salvage-early, salvage-kept}
+use Rattle.salvage.proofs.Next.{whole-part, treed-few, treed-permits}
 use borrow.Author.Needs.{needs}
 use Rattle.salvage.proofs.salvage.Statement.{statement}
 use Rattle.salvage.proofs.salvage.Tie as tie
@@ -23,12 +28,23 @@ with-ranges-requires c κs = search needs
 enum-told : tie.Need-enum-told
 enum-told c = search needs
 
--- antt refused `drop-broken-requires` as it was built: the module's report says why
-drop-broken-requires : tie.Need-drop-broken-requires
-drop-broken-requires c κs = short _ (sym (c .before .before .before .before .check-source .ensures .0) ∙ c .before .before .enum-told .given .1)
+mul-whole : tie.Need-mul-whole
+mul-whole c = search needs
 
-tree-requires : tie.Need-tree-requires
-tree-requires c κs = search needs
+slice-relend-prefix-read-kept : tie.Need-slice-relend-prefix-read-kept
+slice-relend-prefix-read-kept c = search needs
+
+slice-aggregate-read-kept : tie.Need-slice-aggregate-read-kept
+slice-aggregate-read-kept c = sym (length-take-le _ _ (slice-relend-prefix-read-kept (c .before)))
+
+read-kept-requires : tie.Need-read-kept-requires
+read-kept-requires c κs = (short _ (sym (c .before .before .before .before .before .check-source .ensures .0) ∙ c .before .before .before .enum-told .given .1), whole-part (c .before .before .before .before .before .before .before .before .before .before .args .table .now))
+
+add-counted : tie.Need-add-counted
+add-counted c = let f = short _ (sym (c .before .before .before .before .before .before .before .before .before .before .before .before .before .before .check-source .ensures .0) ∙ c .before .before .before .before .before .before .before .before .before .before .before .before .enum-told .given .1) in let l = c .before .before .before .before .before .before .before .before .read-kept .ensures .0 .text in let n = treed-few (c .before .before .before .before .before .before .before .before .read-kept .ensures .1) (omega (arith, f, l)) in omega (arith, n)
+
+counted-requires : tie.Need-counted-requires
+counted-requires c κs = search needs
 
 kept-requires : tie.Need-kept-requires
 kept-requires c κs = search needs
@@ -42,7 +58,6 @@ same-length-2 c = search needs
 same-length-3 : tie.Need-same-length-3
 same-length-3 c = search needs
 
--- antt refused `returns` as it was built: the module's report says why
 returns : tie.Need-returns
 returns c = salvage-early (c .before .before .before .before .before .before .before .before .before .before .before .before .before .before .before .before .before .args .s .now) (c .before .before .before .before .before .before .before .before .before .before .before .before .before .before .before .before .before .args .table .now) (c .before .before .before .before .before .before .before .before .before .before .before .before .before .before .before .before .before .args .ranges .now) (sym (c .before .before .before .before .before .before .before .before .before .before .before .before .check-source .ensures .0) ∙ c .before .before .before .before .before .before .before .before .before .before .why .given .1) (c .before .before .before .refused .ensures) (c .before .before .before .before .before .before .before .clear .ensures) (c .with-ranges .ensures)
 
@@ -55,11 +70,9 @@ same-length-5 c = search needs
 same-length-6 : tie.Need-same-length-6
 same-length-6 c = search needs
 
--- antt refused `returns-2` as it was built: the module's report says why
 returns-2 : tie.Need-returns-2
-returns-2 c = salvage-kept (c .before .before .before .before .before .before .before .before .before .before .before .before .before .before .before .before .before .before .before .before .before .before .before .before .before .before .args .s .now) (c .before .before .before .before .before .before .before .before .before .before .before .before .before .before .before .before .before .before .before .before .before .before .before .before .before .before .args .table .now) (c .before .before .before .before .before .before .before .before .before .before .before .before .before .before .before .before .before .before .before .before .before .before .before .before .before .before .args .ranges .now) (sym (c .before .before .before .before .before .before .before .before .before .before .before .before .before .before .before .before .before .before .before .before .before .check-source .ensures .0) ∙ c .before .before .before .before .before .before .before .before .before .before .before .before .before .before .before .before .before .before .before .enum-told .given .1) (c .before .before .before .before .before .before .before .before .before .before .before .before .before .before .before .before .drop-broken .ensures) (c .before .before .before .before .before .before .before .before .before .tree .ensures) (c .before .before .before .before .kept .ensures) (search needs)
+returns-2 c = salvage-kept (c .before .before .before .before .before .before .before .before .before .before .before .before .before .before .before .before .before .before .before .before .before .before .before .before .before .before .before .before .before .args .s .now) (c .before .before .before .before .before .before .before .before .before .before .before .before .before .before .before .before .before .before .before .before .before .before .before .before .before .before .before .before .before .args .table .now) (c .before .before .before .before .before .before .before .before .before .before .before .before .before .before .before .before .before .before .before .before .before .before .before .before .before .before .before .before .before .args .ranges .now) (sym (c .before .before .before .before .before .before .before .before .before .before .before .before .before .before .before .before .before .before .before .before .before .before .before .before .check-source .ensures .0) ∙ c .before .before .before .before .before .before .before .before .before .before .before .before .before .before .before .before .before .before .before .before .before .before .enum-told .given .1) (c .before .before .before .before .before .before .before .before .before .before .before .before .before .before .before .before .before .before .read-kept .ensures .0) (treed-permits _ (c .before .before .before .before .before .before .before .before .before .before .before .before .before .before .before .before .before .before .before .before .before .before .before .before .before .before .before .before .before .args .table .now) (is-fresh false (sym (c .before .before .before .before .before .before .before .before .before .before .before .before .before .before .before .before .before .before .before .before .before .before .before .before .check-source .ensures .0) ∙ c .before .before .before .before .before .before .before .before .before .before .before .before .before .before .before .before .before .before .before .before .before .before .enum-told .given .1) (c .before .before .before .before .before .before .before .before .before .before .before .before .before .before .before .before .before .before .read-kept .ensures .0 .salvage) .fine) (c .before .before .before .before .before .before .before .before .before .before .before .before .before .before .before .before .before .before .read-kept .ensures .1) (c .before .before .before .before .before .before .before .before .before .counted .ensures)) (c .before .before .before .before .kept .ensures) (search needs)
 
--- antt refused `salvage-spec` as it was built: the module's report says why
 pub salvage-spec : {M : Type 1} → statement M
 salvage-spec =
     tie.close
@@ -70,8 +83,12 @@ salvage-spec =
     refused-requires
     with-ranges-requires
     enum-told
-    drop-broken-requires
-    tree-requires
+    mul-whole
+    slice-relend-prefix-read-kept
+    slice-aggregate-read-kept
+    read-kept-requires
+    add-counted
+    counted-requires
     kept-requires
     same-length
     same-length-2

@@ -1,7 +1,7 @@
 use Rattle.parser.specs.Places.{stepStart}
 use borrow.Author.Needs.{needs}
-use Rattle.reader.proofs.parts.ended_at.Statement.{statement}
-use Rattle.reader.proofs.parts.ended_at.Tie as tie
+use Rattle.salvage.proofs.start_of.Statement.{statement}
+use Rattle.salvage.proofs.start_of.Tie as tie
 
 enum-known-step : tie.Need-enum-known-step
 enum-known-step c = search needs
@@ -17,5 +17,5 @@ returns-2 : tie.Need-returns-2
 unfolding stepStart
 returns-2 c = search needs
 
-pub ended-at-spec : {M : Type 1} → statement M
-ended-at-spec = tie.close (tie.spec enum-known-step enum-known-step-2 returns returns-2)
+pub start-of-spec : {M : Type 1} → statement M
+start-of-spec = tie.close (tie.spec enum-known-step enum-known-step-2 returns returns-2)
