@@ -2,7 +2,7 @@
  *
  * A source, a table or an answer is lent as a pointer and the number of its elements; the pointer may be anything but must
  * not be null or unaligned, also for 0 elements, and nothing is kept of it. No function allocates, fails or asks anything
- * of the bytes. What each says is proved.
+ * of the bytes. What each says is proved, but for the words of lekhyundo_report.
  *
  * (a) and (b) call themselves as deep as a source nests: 11 to 16 KiB of stack for filters of a few levels, 1,016 KiB (on
  * Arm 1,081) for one that nests at all limits at once (docs/ARCHITECTURE.md, "Stack"); lekhyundo_constant takes 17 KiB more
@@ -362,6 +362,12 @@ enum lekhyundo_range {
  * both tables. Room for ranges is ranges_length / LEKHYUNDO_RANGE; LEKHYUNDO_MOST_RANGES serve any source. */
 void lekhyundo_salvage(uint8_t *source, size_t source_length, uint64_t *table, size_t table_length,
                        uint64_t *ranges, size_t ranges_length, uint64_t *answer, size_t answer_length);
+
+/* A refusal that (a) gave to a source with a name, as ./check prints it: a line with name, line, column, number and message, the line of the source, carets under the
+ * place, and what could stand there if that can be told; `needed` is the answer's count. Gives back how many bytes stand in the lent text; what doesn't fit is cut off.
+ * The lent room is for the source up to the place and 16 bytes more: words are tried in it, as many readings of the source up to there. Takes the stack of (a) and a list of 4,096 bytes. */
+size_t lekhyundo_report(const uint8_t *name, size_t name_length, const uint8_t *source, size_t source_length, uint64_t number,
+                        size_t start, size_t end, size_t needed, uint8_t *room, size_t room_length, uint8_t *text, size_t text_length);
 
 #ifdef __cplusplus
 }

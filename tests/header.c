@@ -375,6 +375,19 @@ static void salvages(void)
     same_number("which stays", text[0], '#');
 }
 
+static void reports(void)
+{
+    const char *source = "fn f(,)";
+    const char *lines = "a.roto:1:6: error[6]: ',' can't stand here\n  fn f(,)\n       ^\n  expected one of a name ')'\n";
+    uint8_t room[7 + 16], text[128];
+    size_t length = lekhyundo_report(bytes("a.roto"), 6, bytes(source), 7, LEKHYUNDO_REFUSAL_UNUSABLE, 5, 6, 0,
+                                     room, sizeof room, text, sizeof text);
+    same_number("a report's length", length, strlen(lines));
+    same_number("a report", (uint64_t)memcmp(text, lines, strlen(lines)), 0);
+    length = lekhyundo_report(bytes("a.roto"), 6, bytes(source), 7, LEKHYUNDO_REFUSAL_UNUSABLE, 5, 6, 0, room, sizeof room, text, 9);
+    same_number("a report cut off", length, 9);
+}
+
 int main(void)
 {
     size_t i;
@@ -393,6 +406,7 @@ int main(void)
     constants();
     files();
     salvages();
+    reports();
     printf("%u calls checked, %u wrong\n", checks, failures);
     return failures != 0;
 }

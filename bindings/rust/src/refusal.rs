@@ -1,6 +1,6 @@
 use std::{error::Error, fmt};
 
-use crate::{Place, numbered::numbered};
+use crate::{Place, numbered::numbered, sys};
 
 numbered! {
     /// Why something was refused.
@@ -26,6 +26,12 @@ numbered! {
         WrongIndex = 19 "index is not that of the declaration",
     }
 }
+
+/// Room behind the place for any word of the language with a blank on each side.
+const LONGEST_WORD: usize = 16;
+
+/// Room for any report of a file without a name.
+const LONGEST_REPORT: usize = 8_192;
 
 /// A number from 1 to 19, its place, and what is needed for 10.
 ///
@@ -68,6 +74,46 @@ impl Refusal {
     /// Where in a source it starts. Not for 17 to 19, whose place is no byte of a source.
     pub fn place(&self, source: &[u8]) -> Place {
         Place::of(source, self.start)
+    }
+
+    /// What `./check` prints of a refusal of (a): place and message, the line, carets under the place, what could stand there. Its words
+    /// are found by trying each, so this takes as long as some 70 readings of the source up to the place.
+    ///
+    /// ```
+    /// let source = b"fn f(,)";
+    /// let refusal = lekhyundo::Reader::default().tree(source).unwrap_err();
+    /// let lines = ["a.roto:1:6: error[6]: ',' can't stand here", "  fn f(,)", "       ^", "  expected one of a name ')'", ""];
+    /// assert_eq!(refusal.report("a.roto", source), lines.join("\n"));
+    /// ```
+    pub fn report(&self, name: &str, source: &[u8]) -> String {
+        let Refusal { number, start, end, needed } = *self;
+        let mut room = vec![0; start.min(source.len()) + LONGEST_WORD];
+        let mut out = vec![0; name.len() + LONGEST_REPORT];
+        let (room_length, out_room) = (room.len(), out.len());
+        // SAFETY: each pointer is to that many elements.
+        #[rustfmt::skip]
+        let count = unsafe {
+            sys::lekhyundo_report(
+                name.as_ptr(), name.len(), source.as_ptr(), source.len(), number, start, end, needed,
+                room.as_mut_ptr(), room_length, out.as_mut_ptr(), out_room,
+            )
+        };
+        String::from_utf8_lossy(&out[..count.min(out_room)]).into_owned()
+    }
+
+    /// The words of [`report`](Refusal::report) alone: the message, and on a line of its own what could stand there.
+    ///
+    /// ```
+    /// let source = b"const A: u8 = 300u8;";
+    /// let refusal = lekhyundo::Reader::default().tree(source).unwrap_err();
+    /// assert_eq!(refusal.message(source), "300 doesn't fit u8 (at most 255)");
+    /// ```
+    pub fn message(&self, source: &[u8]) -> String {
+        let report = self.report("", source);
+        let mut lines = report.lines();
+        let message = lines.next().and_then(|head| head.split_once("]: ")).map_or("", |(_, message)| message);
+        // Behind the line and the carets.
+        lines.nth(2).map_or(message.into(), |expected| format!("{message}\n{}", expected.trim_start()))
     }
 
     /// An answer's count, or the refusal.

@@ -58,4 +58,10 @@ unsafe extern "C" {
         source: *mut u8, length: usize, table: *mut u64, room: usize, ranges: *mut u64, range_room: usize, answer: *mut u64,
         five: usize,
     );
+    /// A refusal of (a) to a named source as lines of text into `out`, by the source up to its place and a word more in `room`: how
+    /// many bytes.
+    pub fn lekhyundo_report(
+        name: *const u8, name_length: usize, source: *const u8, length: usize, number: u64, start: usize, end: usize, needed: usize,
+        room: *mut u8, room_length: usize, out: *mut u8, out_room: usize,
+    ) -> usize;
 }

@@ -235,3 +235,25 @@ pub extern "C" fn lekhyundo_salvage(
     put(answer, 3, a.count as u64);
     put(answer, 4, a.ranges as u64);
 }
+
+// A refusal of (a) to a named source as lines of text: place and message, the line, carets, what could stand there; how many bytes. The room is
+// for the source up to the place and a word more. It promises nothing but to be safe and to end.
+#[no_mangle]
+pub extern "C" fn lekhyundo_report(
+    name: &[u8],
+    s: &[u8],
+    number: u64,
+    start: usize,
+    end: usize,
+    needed: usize,
+    room: &mut [u8],
+    out: &mut [u8],
+) -> usize {
+    let a = Answer {
+        number,
+        start,
+        end,
+        count: needed,
+    };
+    messages::report(name, s, a, room, out)
+}
