@@ -363,6 +363,22 @@ enum lekhyundo_range {
 void lekhyundo_salvage(uint8_t *source, size_t source_length, uint64_t *table, size_t table_length,
                        uint64_t *ranges, size_t ranges_length, uint64_t *answer, size_t answer_length);
 
+/* The numbers of the plan for each row, in which rows wait to be printed. */
+enum lekhyundo_plan {
+    LEKHYUNDO_PLAN = 4
+};
+
+/* The one way of writing a source's tree: a space between two tokens, a newline behind {, } and ;, literals and f-strings as they are written, and of parentheses, commas
+ * and ; only those that the tree needs; comments go. Sources with one tree have one print, and the print of a print is itself. A test is a declaration here, as for
+ * lekhyundo_table_check. Five numbers: 0, 0, source_length, the print's bytes, and how many rows are tests (kind 42). Accepted: the print stands first in the lent text and
+ * zeros fill the rest; the rows stand in the table as (a) would leave them, and the plan is zeros. Or a refusal and 0, and zeros throughout all three: that of (a) to the
+ * source, `test` apart, its place in the source; before 10 with the rows needed, where table or plan have no room for them (table_length / LEKHYUNDO_WIDTH, plan_length /
+ * LEKHYUNDO_PLAN; LEKHYUNDO_MOST_ROWS serve any source); before 1 where the print would have more than LEKHYUNDO_MOST_BYTES; before 9 where it would pass another limit, its
+ * place in the print; before 10 with the bytes needed. It takes 64 KiB of stack more than (a) on the print. */
+void lekhyundo_print(const uint8_t *source, size_t source_length, uint64_t *table, size_t table_length,
+                     uint64_t *plan, size_t plan_length, uint8_t *text, size_t text_length,
+                     uint64_t *answer, size_t answer_length);
+
 /* A refusal that (a) gave to a source with a name, as ./check prints it: a line with name, line, column, number and message, the line of the source, carets under the
  * place, and what could stand there if that can be told; `needed` is the answer's count. Gives back how many bytes stand in the lent text; what doesn't fit is cut off.
  * The lent room is for the source up to the place and 16 bytes more: words are tried in it, as many readings of the source up to there. Takes the stack of (a) and a list of 4,096 bytes. */

@@ -375,6 +375,36 @@ static void salvages(void)
     same_number("which stays", text[0], '#');
 }
 
+static void prints(void)
+{
+    uint64_t table[ROOM * LEKHYUNDO_WIDTH], plan[8 * LEKHYUNDO_PLAN + 1], answer[5];
+    const char *source = "const A:b=(1);", *print = "const A : b = 1 ;\n", *test = "test t {}", *short_ = "const";
+    const uint64_t printed[] = {0, 0, 14, 18, 0}, tested[] = {0, 0, 9, 11, 1}, early[] = {LEKHYUNDO_REFUSAL_ENDS_EARLY, 5, 5, 0, 0};
+    const uint64_t rows[] = {LEKHYUNDO_REFUSAL_NO_ROOM, 0, 0, 7, 0}, bytes[] = {LEKHYUNDO_REFUSAL_NO_ROOM, 0, 0, 18, 0};
+    const uint64_t name[] = {LEKHYUNDO_KIND_NAME, 6, 7, 0, 0, 0, 1}, zeros[8 * LEKHYUNDO_PLAN + 1] = {0};
+    const uint8_t none[20] = {0};
+    uint8_t text[20];
+    size_t size = sizeof table / sizeof *table, room = sizeof plan / sizeof *plan;
+    unset(plan, room);
+    memset(text, 'x', 20);
+    lekhyundo_print((const uint8_t *)source, 14, table, size, plan, room, text, 20, answer, 5);
+    same("a constant printed", answer, printed, 5);
+    same("its first row", table, name, LEKHYUNDO_WIDTH);
+    same("its plan", plan, zeros, room);
+    same_number("its print", (uint64_t)memcmp(text, print, 18), 0);
+    same_number("zeros behind it", (uint64_t)memcmp(text + 18, none, 2), 0);
+    lekhyundo_print((const uint8_t *)source, 14, table, size, plan, room, text, 17, answer, 5);
+    same("no room for the print", answer, bytes, 5);
+    same_number("zeros for it", (uint64_t)memcmp(text, none, 17), 0);
+    lekhyundo_print((const uint8_t *)source, 14, table, size, plan, 7 * LEKHYUNDO_PLAN - 1, text, 20, answer, 5);
+    same("no room for the plan", answer, rows, 5);
+    same("zeros for the rows", table, zeros, LEKHYUNDO_WIDTH);
+    lekhyundo_print((const uint8_t *)test, 9, table, size, plan, room, text, 20, answer, 5);
+    same("a test printed", answer, tested, 5);
+    lekhyundo_print((const uint8_t *)short_, 5, table, size, plan, room, text, 20, answer, 5);
+    same("a source that ends early", answer, early, 5);
+}
+
 static void reports(void)
 {
     const char *source = "fn f(,)";
@@ -406,6 +436,7 @@ int main(void)
     constants();
     files();
     salvages();
+    prints();
     reports();
     printf("%u calls checked, %u wrong\n", checks, failures);
     return failures != 0;

@@ -94,6 +94,16 @@ until_true('folds of all', function()
   return vim.fn.foldlevel(12) == 2
 end)
 
+-- The whole file is written in its one way, and then nothing changes any more.
+local function print_of()
+  local format = vim.lsp.buf.format or vim.lsp.buf.formatting_sync
+  format()
+  return vim.api.nvim_buf_get_lines(0, 0, -1, true)
+end
+local print_once = print_of()
+is('first line of the print', print_once[1], 'import std . net ;')
+is('the print of the print', print_of(), print_once)
+
 -- A file that is no ASCII is refused where it isn't.
 vim.api.nvim_buf_set_lines(0, 0, 1, true, { '// Routen für Kunden' })
 until_true('a byte that is no ASCII', function()

@@ -30,6 +30,7 @@
 //! | C-15, the leaf under a byte | [`Tree::at`], [`at`] of any rows |
 //! | C-17, the number of a float | [`Node::float`], [`float()`](float()), [`float_of`] a row |
 //! | C-18, a constant's value | [`constant()`](constant()) |
+//! | C-20, one way of writing a filter | [`print()`](print()) |
 //! | C-21, tables from other tools | [`table_check`], [`table_write`] |
 //! | C-23, a broken file salvaged | [`salvage()`](salvage()) |
 //!
@@ -42,6 +43,7 @@ mod kind;
 mod literal;
 mod numbered;
 mod place;
+mod print;
 mod reader;
 mod refusal;
 mod salvage;
@@ -54,6 +56,7 @@ pub use constant::{Constant, constant};
 pub use kind::{Kind, Operator};
 pub use literal::{Float, decode, float, float_of, name};
 pub use place::{Lines, Place};
+pub use print::print;
 pub use reader::Reader;
 pub use refusal::{Reason, Refusal};
 pub use salvage::{Dropped, Salvage, salvage};

@@ -58,6 +58,12 @@ unsafe extern "C" {
         source: *mut u8, length: usize, table: *mut u64, room: usize, ranges: *mut u64, range_room: usize, answer: *mut u64,
         five: usize,
     );
+    /// C-20, the print in `text`, the rows in `table`, four numbers a row in `plan`, which are zeros in the end; answer: number, start, end, bytes,
+    /// tests.
+    pub fn lekhyundo_print(
+        source: *const u8, length: usize, table: *mut u64, room: usize, plan: *mut u64, plan_room: usize, text: *mut u8,
+        text_room: usize, answer: *mut u64, five: usize,
+    );
     /// A refusal of (a) to a named source as lines of text into `out`, by the source up to its place and a word more in `room`: how
     /// many bytes.
     pub fn lekhyundo_report(

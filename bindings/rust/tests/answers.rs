@@ -1,5 +1,5 @@
 use lekhyundo::{
-    Constant, Float, Kind, Reader, Refusal, SIZE, Token, TokenCode, WIDTH, at, constant, decode, float, float_of, name, salvage, subtree,
+    Constant, Float, Kind, Reader, Refusal, SIZE, Token, TokenCode, WIDTH, at, constant, decode, float, float_of, name, print, salvage, subtree,
     table_check, table_write, token_list,
 };
 
@@ -300,4 +300,25 @@ fn the_most_ranges_that_a_source_has_fit() {
     for (source, ranges) in [("x", 1), ("x\nfn", 2), ("x\nfn\nfn", 3), ("fn\nfn", 2)] {
         assert_eq!(crate::salvage(source.as_bytes()).unwrap().dropped.len(), ranges);
     }
+}
+
+#[test]
+fn a_source_has_one_print() {
+    let sources: [&[u8]; 3] = [b"fn f(){if (x{}+y{}) {}}", b"fn f ( )\n{ if ((x { }) + ((y{}))) { } // a\n}", b"fn f(){if(x{})+(y{}){}}"];
+    for source in sources {
+        assert_eq!(print(source).unwrap(), "fn f ( ) {\nif ( x {\n}\n) + ( y {\n}\n) {\n}\n}\n");
+    }
+    assert_eq!(print(b"").unwrap(), "");
+    assert_eq!(print(b"test t {}").unwrap(), "test t {\n}\n");
+}
+
+#[test]
+fn a_print_that_passes_a_limit_is_refused() {
+    let prefixes = format!("const A:b={}({}a);", "!".repeat(16), "!".repeat(17));
+    assert_eq!(print(prefixes.as_bytes()), Err(refusal(9, 78, 79)));
+    let strings = |bytes| format!("const A:b=\"{}\";", "x".repeat(bytes));
+    assert_eq!(print(strings(65_535 - 19).as_bytes()).map(|text| text.len()), Ok(65_535));
+    assert_eq!(print(strings(65_535 - 18).as_bytes()), Err(refusal(1, 65_535, 65_535)));
+    assert_eq!(print(b"const"), Err(refusal(11, 5, 5)));
+    assert_eq!(print(&[128]), Err(refusal(2, 0, 1)));
 }

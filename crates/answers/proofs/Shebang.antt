@@ -69,11 +69,21 @@ begins (x ∷ y ∷ l) e =
     let g : y ≡ 33 = sym (byte-in s 1 (omega arith)) ∙ eqb→eq (byteAt s 1) 33 (true-T (right-true (eqb (byteAt s 0) 35) (eqb (byteAt s 1) 33) e)) in
     (l, ap (λ (n : ℕ). n ∷ y ∷ l) f ∙ ap (λ (n : ℕ). 35 ∷ n ∷ l) g)
 
+-- there no token stands
+shebang-wrong : (l : List ℕ) → (source (35 ∷ 33 ∷ l)) .look 0 ≡ wrong 4 0 1
+shebang-wrong l = ap (Rattle.answers.specs.Source.lookOf (35 ∷ 33 ∷ l)) (hash l)
+
 pub shebang-none : (tests tree : Bool) (s : List ℕ) {p : Parts} → pairAt s 0 35 33 ≡ true → Text (source s) (roto tests) (goal tree) 0 p → ⊥
 shebang-none tests tree s {p} e x = let k = begins s e in go (k .0) (subst (λ (t : List ℕ). Text (source t) (roto tests) (goal tree) 0 p) (k .1) x)
   where
     go : (l : List ℕ) → Text (source (35 ∷ 33 ∷ l)) (roto tests) (goal tree) 0 p → ⊥
-    go l y = wrong-none (source (35 ∷ 33 ∷ l)) tests tree (ap (Rattle.answers.specs.Source.lookOf (35 ∷ 33 ∷ l)) (hash l)) y
+    go l y = wrong-none (source (35 ∷ 33 ∷ l)) tests tree (shebang-wrong l) y
+
+pub shebang-no-token : (s : List ℕ) {x : Token} {j : ℕ} → pairAt s 0 35 33 ≡ true → (source s) .look 0 ≡ found x j → ⊥
+shebang-no-token s {x} {j} e f = let k = begins s e in go (k .0) (subst (λ (t : List ℕ). (source t) .look 0 ≡ found x j) (k .1) f)
+  where
+    go : (l : List ℕ) → (source (35 ∷ 33 ∷ l)) .look 0 ≡ found x j → ⊥
+    go l f = let w = shebang-wrong l in let z : _≡_ {A = ℕ} 0 1 = cc in omega arith
 
 all-low : (s : List ℕ) → ((at : ℕ) → at < length s → byteAt s at < 128) → length s ≤ pastRun (isClass Ascii) s 0
 unfolding isClass
@@ -82,10 +92,14 @@ all-low s low = elim (decLt (pastRun (isClass Ascii) s 0) (length s)) [
   | no f ↦ omega (arith, f)
 ]
 
-pub reading-fine : (tests tree : Bool) (s : List ℕ) {p : Parts} → length s ≤ 65535 → ((at : ℕ) → at < length s → byteAt s at < 128) → Text (source s) (roto tests) (goal tree) 0 p → wholeOf s ≡ Fine
+-- one that doesn't begin so, of at most 65,535 bytes below 128, passes 1, 2 and 3
+pub low-fine : (s : List ℕ) → length s ≤ 65535 → ((at : ℕ) → at < length s → byteAt s at < 128) → pairAt s 0 35 33 ≡ false → wholeOf s ≡ Fine
 unfolding wholeOf
+low-fine s short low e = rw (le-ltb 65535 (length s) short, le-ltb (pastRun (isClass Ascii) s 0) (length s) (all-low s low), e)
+
+pub reading-fine : (tests tree : Bool) (s : List ℕ) {p : Parts} → length s ≤ 65535 → ((at : ℕ) → at < length s → byteAt s at < 128) → Text (source s) (roto tests) (goal tree) 0 p → wholeOf s ≡ Fine
 reading-fine tests tree s short low x = go (pairAt s 0 35 33) refl
   where
     go : (b : Bool) → pairAt s 0 35 33 ≡ b → wholeOf s ≡ Fine
     go true e = absurd (shebang-none tests tree s e x)
-    go false e = rw (le-ltb 65535 (length s) short, le-ltb (pastRun (isClass Ascii) s 0) (length s) (all-low s low), e)
+    go false e = low-fine s short low e

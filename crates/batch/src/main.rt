@@ -122,6 +122,12 @@ fn ranged(source: &mut [u8], line: Line, table: &mut [u64]) {
     }
 }
 
+// The print of a source, in a text of so many bytes.
+fn printed(source: &[u8], room: usize, table: &mut [u64]) {
+    let mut plan = case_plan();
+    print::answer_print(source, table, &mut plan, room);
+}
+
 // The numbers behind a case's length: the room, the position or the constant's number; the room of its list or its ranges; that of a constant's rows.
 struct Line {
     first: u64,
@@ -130,7 +136,8 @@ struct Line {
 }
 
 // Entries: `a` source to tree, `b` to one expression, `c` to token list, `e` a string token decoded, `f` the number of a float,
-// `k` a constant, `n` the leaf that holds a byte, `s` a broken source salvaged, `t` a file checked, `w` the file of a source.
+// `k` a constant, `n` the leaf that holds a byte, `p` the print of a source, `s` a broken source salvaged, `t` a file checked, `w` the file
+// of a source.
 fn answer(entry: u8, source: &mut [u8], line: Line, table: &mut [u64]) {
     let room = line.first as usize;
     match entry {
@@ -143,6 +150,7 @@ fn answer(entry: u8, source: &mut [u8], line: Line, table: &mut [u64]) {
         b'f' => print::answer_float(source),
         b'k' => listed(source, line, table),
         b'n' => node(source, line.first, table),
+        b'p' => printed(source, room, table),
         b's' => ranged(source, line, table),
         b't' => {
             print::answer_check(source, table);
@@ -204,6 +212,11 @@ fn case_table() -> [u64; MOST_ROWS * rows::WIDTH] {
 // Zeros for the ranges.
 fn case_ranges() -> [u64; MOST_RANGES * salvage::WIDTH] {
     [0; MOST_RANGES * salvage::WIDTH]
+}
+
+// Zeros for what waits to be printed.
+fn case_plan() -> [u64; MOST_ROWS * setter::PLAN_WIDTH] {
+    [0; MOST_ROWS * setter::PLAN_WIDTH]
 }
 
 // Zeros for a constant's instructions.

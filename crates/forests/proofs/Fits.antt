@@ -7,9 +7,10 @@ use lib.Dec.{T, T-not}
 use native.Mathlib.Omega.{arith}
 use Rattle.rows.specs.Kinds as kinds
 use Rattle.grammar.specs.Words.{'||', '&&', compare-signs, sum-signs, product-signs, binary-signs}
-use Rattle.grammar.specs.Grammar.{Symbol, Token, found, Stream, Parts, end, Rule, alternatives, In, one-of}
+use Rattle.grammar.specs.Grammar.{Ask, Symbol, Token, found, Stream, Parts, end, Rule, alternatives, In, one-of}
 use Rattle.grammar.specs.Kinds.{records, no-records, TYPED-NAME, TYPED-NAMES, TYPED-NAMES-MORE, TYPE, TYPES, TYPES-MORE, EXPR, EXPRS, EXPRS-MORE, FIELD, FIELDS, FIELDS-MORE, NAME, NAMES, NAMES-MORE}
-use Rattle.grammar.specs.Readings.{Text, peek}
+use Rattle.grammar.specs.Readings.{ReadingBy, Text, peek}
+use Rattle.grammar.specs.Limits.{Counts}
 use Rattle.grammar.specs.Table.{list-of, lists, declarations, paths, types, blocks, exprs, atoms, arms, rules}
 use Rattle.grammar.specs.Rows.{Row, place-in, row-of, rows}
 use Rattle.grammar.specs.Language.{roto, goal, start}
@@ -354,18 +355,22 @@ module _ (s : List ℕ) where
       go false e = rule-at (D s tests) (rules tests) n o (in-rules tests) (subst (λ (b : Bool). T (not b)) (sym e) tt)
 
   module _ (tests : Bool) (S : Stream) (looks : (i j : S .Place) (x : Token) → S .look i ≡ found x j → K x) (pieces : (i j : S .Place) (x : Token) → S .piece i ≡ found x j → K x) where
-    all-read : (tree : Bool) {i : S .Place} {p : Parts} → Text S (roto tests) (goal tree) i p → Alls s tests (start tree) (peek S (roto tests) i) p
-    all-read tree t = by-alternatives (roto tests) K (Claims s) S looks pieces (step tests) (t .reads)
+    -- G: whatever is asked of a token beside its word
+    all-read : (tree : Bool) {G : Ask → Counts → Token → Bool} {d : Counts} {i r : S .Place} {p : Parts} → ReadingBy S (roto tests) G d (start tree) i r p → Alls s tests (start tree) (peek S (roto tests) i) p
+    all-read tree t = by-alternatives (roto tests) K (Claims s) S looks pieces (step tests) t
 
-    trees-fit : (tree : Bool) {i : S .Place} {p : Parts} → Text S (roto tests) (goal tree) i p → Each (Fits whole) (trees-in s ((plant s p bud) .twigs))
+    trees-fit : (tree : Bool) {G : Ask → Counts → Token → Bool} {d : Counts} {i r : S .Place} {p : Parts} → ReadingBy S (roto tests) G d (start tree) i r p → Each (Fits whole) (trees-in s ((plant s p bud) .twigs))
     trees-fit true t = (keeps-all s tests tt (all-read true t)) .kept [] 0 tt
     trees-fit false t = (keeps-all s tests tt (all-read false t)) .kept [] 0 tt
 
     -- in any reading, a row that stands without a pair needs none at its place
-    pub bare-fits : (tree : Bool) {i : S .Place} {p : Parts} → Text S (roto tests) (goal tree) i p → Met [] (marked s tree p)
+    pub bare-fits-by : (tree : Bool) {G : Ask → Counts → Token → Bool} {d : Counts} {i r : S .Place} {p : Parts} → ReadingBy S (roto tests) G d (start tree) i r p → Met [] (marked s tree p)
     unfolding marked marked-from
-    bare-fits true {p = p} t = let ts = trees-in s ((plant s p bud) .twigs) in met-tree [] 0 tree-label ts no-more (at-whole (ordinary-at kinds.TREE 0 0 [] ts true tt (λ x. tt) (trees-fit true t))) (met-none [])
-    bare-fits false {p = p} t = met-wholes [] (trees-in s ((plant s p bud) .twigs)) tt (trees-fit false t)
+    bare-fits-by true {p = p} t = let ts = trees-in s ((plant s p bud) .twigs) in met-tree [] 0 tree-label ts no-more (at-whole (ordinary-at kinds.TREE 0 0 [] ts true tt (λ x. tt) (trees-fit true t))) (met-none [])
+    bare-fits-by false {p = p} t = met-wholes [] (trees-in s ((plant s p bud) .twigs)) tt (trees-fit false t)
+
+    pub bare-fits : (tree : Bool) {i : S .Place} {p : Parts} → Text S (roto tests) (goal tree) i p → Met [] (marked s tree p)
+    bare-fits tree t = bare-fits-by tree (t .reads)
 
     -- one expression leaves one tree
     lone : {u : ℕ} {p : Parts} → Alls s tests (start false) u p → (r : Row) × (k : ℕ) × (kids : Marked) × ((plant s p bud) .twigs ≡ branch r k kids ∷ [])
@@ -373,4 +378,4 @@ module _ (s : List ℕ) where
 
     pub reading-grows : (tree : Bool) (len : ℕ) {i : S .Place} {p : Parts} → Text S (roto tests) (goal tree) i p → tree-of s (rows tree len p) ≡ forest s tree p
     reading-grows true len {p = p} t = rows-grow s len p
-    reading-grows false len {p = p} t = let h = lone (all-read false t) in expr-grows s len p (h .3)
+    reading-grows false len {p = p} t = let h = lone (all-read false (t .reads)) in expr-grows s len p (h .3)

@@ -34,13 +34,14 @@ use Rattle.grammar.specs.Grammar.{Token, found, Parts, one-of}
 use Rattle.grammar.specs.Readings.{Text}
 use Rattle.grammar.specs.Rows.{rows}
 use Rattle.grammar.specs.Language.{roto, goal}
+use Rattle.answers.specs.Demands.{ByRules}
 use Rattle.answers.specs.Source.{kindOf, tokenFor, lookAfter, lookOf, textToken, pieceOf, source}
 use Rattle.canon.specs.Trees.{tree-of}
 use Rattle.forests.specs.Planted.{marked, forest}
 use Rattle.forests.specs.Met.{Met}
 use Rattle.forests.proofs.Stands.{literal-kinds}
 use Rattle.forests.proofs.Table.{K}
-use Rattle.forests.proofs.Fits.{bare-fits, reading-grows}
+use Rattle.forests.proofs.Fits.{bare-fits, bare-fits-by, reading-grows}
 
 abbrev Kind : Literal → Type 0
 Kind l = T (one-of (kindOf l) literal-kinds)
@@ -139,3 +140,7 @@ module _ (s : List ℕ) where
     -- and a row that stands without a pair needs none
     pub source-fits : Met [] (marked s tree p)
     source-fits = bare-fits s tests (source s) looks-known pieces-known tree t
+
+  -- so by the rules alone, whatever limit the source passes
+  pub rules-fit : (tests tree : Bool) {p : Parts} → ByRules tests tree s p → Met [] (marked s tree p)
+  rules-fit tests tree t = bare-fits-by s tests (source s) looks-known pieces-known tree (t .reads)

@@ -4,18 +4,11 @@ use mathlib.Core.Bool.{Bool, true, false, not}
 use Prim.Native.Nat.{ℕ, zero, suc}
 use lib.Dec.{T}
 use Rattle.canon.specs.Trees.{Label, Forest}
-use Rattle.canon.specs.Layout.{Place, whole, needs, Slot, layout}
+use Rattle.canon.specs.Layout.{needs, Slot, layout}
 use Rattle.canon.specs.Text.{inner, place-of, later}
+-- in a pair a row is a whole expr; a row without a pair doesn't need one
+pub use Rattle.printing.specs.Pairs.{within, served}
 use Rattle.forests.specs.Planted.{Marked, no-more, stands, unmarked}
-
--- in a pair a row is a whole expr
-abbrev pub within : ℕ → Place → Place
-within zero c = c
-within (suc k) c = whole
-
-abbrev pub served : ℕ → Place → Label → Forest → Bool
-served zero c a kids = not (needs c a kids)
-served (suc k) c a kids = true
 
 -- each tree of the row in its slot, and those under it in the slots of its layout
 unfoldable pub Met : List Slot → Marked → Type 0

@@ -1,4 +1,4 @@
--- Two answers that the C functions of (a) and (b) permit coincide, and so do the tables; and so do two answers to a float, to a position, to a constant, of C-21 and of C-23.
+-- Two answers that the C functions of (a) and (b) permit coincide, and so do the tables; and so do two answers to a float, to a position, to a constant, of C-21, of C-23 and of C-20.
 use mathlib.Core.Path.{_≡_, sym, ap, _∙_}
 use mathlib.Core.List.{List}
 use mathlib.Core.Bool.{Bool, true, false}
@@ -15,13 +15,15 @@ use Rattle.constants.proofs.Answered as constants
 use Rattle.sheets.specs.declared.Checked.{Checked}
 use Rattle.sheets.proofs.Answered.{one-check, one-write}
 use Rattle.salvage.proofs.One.{one-salvage}
-use Rattle.lekhyundo.specs.Numbers.{answerNumbers, floatNumbers, constantNumbers, checkedNumbers, salvagedNumbers}
+use Rattle.roundtrip.proofs.OneWay.{one-way}
+use Rattle.lekhyundo.specs.Numbers.{answerNumbers, floatNumbers, constantNumbers, checkedNumbers, salvagedNumbers, printedNumbers}
 use Rattle.lekhyundo.specs.Entered.{Entered}
 use Rattle.lekhyundo.specs.Floated.{Floated}
 use Rattle.lekhyundo.specs.Searched.{Searched}
 use Rattle.lekhyundo.specs.Evaluated.{Evaluated}
 use Rattle.lekhyundo.specs.Tabled.{TableChecked, TableWritten}
 use Rattle.lekhyundo.specs.Salvaged.{Salvaged}
+use Rattle.lekhyundo.specs.Printed.{Printed}
 
 pub one-entered : (tree : Bool) (s : List ℕ) (size : ℕ) {t u run x y : List ℕ} → Entered tree s size t run x → Entered tree s size u run y → (t ≡ u) × (x ≡ y)
 one-entered tree s size {run = run} a b =
@@ -49,3 +51,8 @@ pub one-salvaged : (s : List ℕ) (size room : ℕ) {t u l m v w run x y : List 
 one-salvaged s size room {run = run} a b =
     let k = (one-salvage false s size room) .one (a .permitted) (b .permitted) in
     (k .2, k .3, k .4, a .numbers ∙ (λ i. sets run 0 (salvagedNumbers (k .0 i) (k .1 i))) ∙ sym (b .numbers))
+
+pub one-printed : (s : List ℕ) (size size′ size″ : ℕ) {t u p q v w run x y : List ℕ} → Printed s size size′ size″ t p v run x → Printed s size size′ size″ u q w run y → (t ≡ u) × (p ≡ q) × (v ≡ w) × (x ≡ y)
+one-printed s size size′ size″ {run = run} a b =
+    let k = (one-way s size size′ size″) .no-other (a .permitted) (b .permitted) in
+    (k .2, k .3, k .4, a .numbers ∙ (λ i. sets run 0 (printedNumbers (k .0 i) (k .1 i))) ∙ sym (b .numbers))

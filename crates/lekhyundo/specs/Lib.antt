@@ -5,3 +5,4 @@ pub mod Searched
 pub mod Evaluated
 pub mod Tabled
 pub mod Salvaged
+pub mod Printed

@@ -27,3 +27,7 @@ checkedNumbers c = c .number ∷ c .start ∷ c .end ∷ c .count ∷ c .tests �
 -- how many ranges were dropped, behind the answer
 unfoldable pub salvagedNumbers : Answer → ℕ → List ℕ
 salvagedNumbers a n = a .number ∷ a .start ∷ a .end ∷ a .count ∷ n ∷ []
+
+-- how many rows are tests, behind the answer to a print
+unfoldable pub printedNumbers : Answer → ℕ → List ℕ
+printedNumbers a n = a .number ∷ a .start ∷ a .end ∷ a .count ∷ n ∷ []

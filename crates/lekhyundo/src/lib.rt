@@ -17,6 +17,7 @@ ghost use Rattle.lekhyundo.specs.Searched.{Searched};
 ghost use Rattle.lekhyundo.specs.Evaluated.{Evaluated};
 ghost use Rattle.lekhyundo.specs.Tabled.{TableChecked, TableWritten};
 ghost use Rattle.lekhyundo.specs.Salvaged.{Salvaged};
+ghost use Rattle.lekhyundo.specs.Printed.{Printed};
 use chars::Answer;
 use reader::entries;
 use tokens::Cursor;
@@ -234,6 +235,25 @@ pub extern "C" fn lekhyundo_salvage(
     put(answer, 2, a.end as u64);
     put(answer, 3, a.count as u64);
     put(answer, 4, a.ranges as u64);
+}
+
+// C-20: the print of a source in a lent text, with lent tables for its rows and for what waits to be written; number, start, end, count, tests.
+#[no_mangle]
+pub extern "C" fn lekhyundo_print(
+    s: &[u8],
+    table: &mut [u64],
+    plan: &mut [u64],
+    text: &mut [u8],
+    answer: &mut [u64],
+)
+    ensures { λ r. ⌜ Printed (now (s .entry)) (length (now (table .entry))) (length (now (plan .entry))) (length (now (text .entry))) (now (table .exit)) (now (plan .exit)) (now (text .exit)) (now (answer .entry)) (now (answer .exit)) ⌝ }
+{
+    let a = setter::entries::print_tree(s, table, plan, text);
+    put(answer, 0, a.number);
+    put(answer, 1, a.start as u64);
+    put(answer, 2, a.end as u64);
+    put(answer, 3, a.count as u64);
+    put(answer, 4, a.tests as u64);
 }
 
 // A refusal of (a) to a named source as lines of text: place and message, the line, carets, what could stand there; how many bytes. The room is

@@ -10,6 +10,8 @@ ghost use Rattle.canon.specs.Text.{inner};
 ghost use Rattle.places.specs.Meant.{unlessOf, meant, mark};
 use rows::kind;
 
+pub mod under;
+
 // What a place asks: a level at least; whether a record may stand; whether a path may; with which words nothing may begin there; whether an arm follows.
 pub struct Place {
     pub level: u64,

@@ -7,6 +7,7 @@ use chars::Answer;
 use chars::refusal;
 use libc::STDOUT_FILENO;
 use reader::entries;
+use setter::entries::Printed;
 use tokens::Cursor;
 use tokens::Step;
 
@@ -339,4 +340,47 @@ pub fn answer_salvage(s: &mut [u8], table: &mut [u64], ranges: &mut [u64]) {
         end: a.end,
         count: a.count,
     });
+}
+
+// The first bytes of a buffer, if there are some.
+fn first_bytes(out: &[u8], count: usize) {
+    if 0 < count {
+        if count <= out.len() {
+            hex_line(&out[..count]);
+        }
+    }
+}
+
+// C-20: `accepted COUNT TESTS` and the text as hex if it has bytes; or the refusal.
+fn answer_printed(a: Printed, text: &[u8]) {
+    if a.number == refusal::NONE {
+        accepted(a.count as u64, a.tests as u64);
+        first_bytes(text, a.count);
+        return;
+    }
+    head(Answer {
+        number: a.number,
+        start: a.start,
+        end: a.end,
+        count: a.count,
+    });
+}
+
+fn printed(s: &[u8], table: &mut [u64], plan: &mut [u64], text: &mut [u8]) {
+    let a = setter::entries::print_tree(s, table, plan, text);
+    answer_printed(a, text);
+}
+
+fn printed_within(s: &[u8], table: &mut [u64], plan: &mut [u64], text: &mut [u8], room: usize) {
+    if room < text.len() {
+        printed(s, table, plan, &mut text[..room]);
+    } else {
+        printed(s, table, plan, text);
+    }
+}
+
+// C-20: the print of a source, as far as the buffer reaches.
+pub fn answer_print(s: &[u8], table: &mut [u64], plan: &mut [u64], room: usize) {
+    let mut text = io::large_buffer();
+    printed_within(s, table, plan, &mut text, room);
 }

@@ -11,7 +11,7 @@ use Rattle.grammar.specs.Grammar.{Parts, Token, end, here, leaf, node, phrase, 
 use Rattle.grammar.specs.Kinds.{AFTER-PATH, AND, AND-MORE, ASSIGNED, BINARY, COMPARE, EXPR, OPERAND, OR-MORE, PARENS, POSTFIX, PRODUCT, PRODUCT-MORE, SUM, SUM-MORE, records}
 use Rattle.grammar.specs.Readings.{reads-end, reads-phrase, reads-side, reads-token}
 use Rattle.grammar.specs.Language.{roto}
-use Rattle.printing.specs.Groves.{Grove, State, fresh, grow, token-of}
+use Rattle.printing.specs.Groves.{Grove, State, fresh, grow, pairs, token-of}
 use Rattle.printing.proofs.Lists.{Read, Rest, Whole, chain, grow-phrase, grow-rest, in-chain-and, in-chain-compare, in-chain-or, in-chain-product, in-chain-sum, in-no-after, in-no-and, in-no-assigned, in-no-compare, in-no-or, in-no-postfix, in-no-product, in-no-sum, in-pair, in-side, l, more-and-more, more-assigned, more-compare-more, more-or-more, more-postfix, more-product-more, more-sum-more, none, own-and, own-binary, own-compare, own-operand, own-product, own-sum}
 
 -- The tokens `f y` are a phrase of the level, with y behind: what follows of a chain is handed in.
@@ -78,3 +78,7 @@ parens u = record {
 
 pub pair : (r : Bool) (f : List Token → List Token) (g : Grove) → Level 0 records f g → Level 8 r (λ y. token-of open-paren ∷ f (token-of close-paren ∷ y)) g
 pair r f g u y z g′ v = chain (in-pair r) refl (more-postfix r) (parens (u (token-of close-paren ∷ y))) v
+
+pub in-more-pairs : (n : ℕ) (r : Bool) (f : List Token → List Token) (g : Grove) → Level 0 records f g → Level 8 r (pairs (suc n) f) g
+in-more-pairs zero r f g u = pair r f g u
+in-more-pairs (suc n) r f g u = pair r (pairs (suc n) f) g (climb 8 0 records (pairs (suc n) f) g (omega arith) (in-more-pairs n records f g u))

@@ -15,6 +15,8 @@ pub mod Notes
 pub mod Stands
 pub mod ReadsBack
 pub mod Labels
+pub mod Spare
+pub mod Needed
 pub mod Printed
 pub mod Sources
 pub mod Back

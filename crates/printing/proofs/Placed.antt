@@ -15,10 +15,10 @@ use Rattle.grammar.specs.Readings.{peek}
 use Rattle.grammar.specs.Culprit.{lists}
 use Rattle.grammar.proofs.Bools.{and-l, and-r, or-cases}
 use Rattle.canon.specs.Layout.{Place, whole, level, needs, begins, empty, is-four, is-expr}
-use Rattle.canon.specs.Text.{inner}
-use Rattle.printing.specs.Groves.{Grove, Head, body, label-of, labelled, needs-pair, nil, paired, say, top}
+use Rattle.printing.specs.Groves.{Grove, Head, Suit, Under, body, label-of, labelled, needs-pair, nil, say, top}
+use Rattle.printing.specs.Pairs.{Choice}
 use Rattle.printing.proofs.Lists.{Whole, l}
-use Rattle.printing.proofs.Levels.{Level, climb, pair}
+use Rattle.printing.proofs.Levels.{Level, climb, in-more-pairs}
 
 -- what a place asks, as a level: 8 where no path may stand
 abbrev pub rank : Place → ℕ
@@ -71,6 +71,10 @@ pub each-of : (C : ℕ → Type 0) (w : List ℕ) (c : ℕ) → T (one-of c w) �
 each-of C [] c m h = absurd m
 each-of C (x ∷ w) c m h = elim (or-cases (eqb c x) (one-of c w) m) [ inl e ↦ subst C (sym (eqb→eq c x e)) (h .0) | inr k ↦ each-of C w c k (h .1) ]
 
+pub off : (b : Bool) → T (not b) → b ≡ false
+off true t = absurd t
+off false t = refl
+
 or-false-l : (a b : Bool) → (a || b) ≡ false → a ≡ false
 or-false-l true b e = e
 or-false-l false b e = refl
@@ -108,20 +112,20 @@ module _ (s : List ℕ) where
   natural h = let n = level (label-of s h) in cond (eqb (h .kind) kinds.PATH) 7 (cond (eqb n 7) 8 n)
 
   pub record Placed (h : Head) (k : Grove) : Type 0 where
-    pub stands : (c : Place) → Fair c → Level (rank c) (c .records) (say s c h k) (top h k nil)
-    pub begin : (c : Place) (u : Barred) → c .unless ≡ barred u → (z : List Token) → T (not (one-of (peek lists l (say s c h k z)) (barred u)))
+    pub stands : (c : Place) → Fair c → (n : ℕ) (χ : Choice) → Suit s c n h k χ → Level (rank c) (c .records) (say s c n h k χ) (top h k nil)
+    pub begin : (c : Place) (u : Barred) (n : ℕ) (χ : Choice) → Suit s c n h k χ → c .unless ≡ barred u → (z : List Token) → T (not (one-of (peek lists l (say s c n h k χ z)) (barred u)))
     pub path : T (eqb (h .kind) kinds.PATH) → PathTree h k
-    pub four : T (is-four (h .kind)) → (z : List Token) → Whole FOUR (body s whole h k z) z (top h k nil)
-    pub block : T (eqb (h .kind) kinds.BLOCK) → (z : List Token) → Whole BLOCK (body s whole h k z) z (top h k nil)
+    pub four : T (is-four (h .kind)) → (χ : Choice) → Under s whole h k χ → (z : List Token) → Whole FOUR (body s whole h k χ z) z (top h k nil)
+    pub block : T (eqb (h .kind) kinds.BLOCK) → (χ : Choice) → Under s whole h k χ → (z : List Token) → Whole BLOCK (body s whole h k χ z) z (top h k nil)
     pub expr : T (is-expr (h .kind))
 
-  -- the same for a tree that needs no pair
+  -- the same for a tree that needs no pair and has none
   pub record Bare (h : Head) (k : Grove) : Type 0 where
-    pub stands : (c : Place) → needs-pair s c h k ≡ false → Level (natural h) (c .records) (body s c h k) (top h k nil)
-    pub begin : (c : Place) (u : Barred) → needs-pair s c h k ≡ false → c .unless ≡ barred u → (z : List Token) → T (not (one-of (peek lists l (body s c h k z)) (barred u)))
+    pub stands : (c : Place) (χ : Choice) → needs-pair s c h k ≡ false → Under s c h k χ → Level (natural h) (c .records) (body s c h k χ) (top h k nil)
+    pub begin : (c : Place) (u : Barred) (χ : Choice) → needs-pair s c h k ≡ false → Under s c h k χ → c .unless ≡ barred u → (z : List Token) → T (not (one-of (peek lists l (body s c h k χ z)) (barred u)))
     pub path : T (eqb (h .kind) kinds.PATH) → PathTree h k
-    pub four : T (is-four (h .kind)) → (z : List Token) → Whole FOUR (body s whole h k z) z (top h k nil)
-    pub block : T (eqb (h .kind) kinds.BLOCK) → (z : List Token) → Whole BLOCK (body s whole h k z) z (top h k nil)
+    pub four : T (is-four (h .kind)) → (χ : Choice) → Under s whole h k χ → (z : List Token) → Whole FOUR (body s whole h k χ z) z (top h k nil)
+    pub block : T (eqb (h .kind) kinds.BLOCK) → (χ : Choice) → Under s whole h k χ → (z : List Token) → Whole BLOCK (body s whole h k χ z) z (top h k nil)
     pub expr : T (is-expr (h .kind))
 
   -- of a row that needs no pair: it is no record where none may stand, and begins with no barred word
@@ -146,25 +150,22 @@ module _ (s : List ℕ) where
   paren-free a-brace = tt
 
   pub settle : (h : Head) (k : Grove) → Bare h k → Placed h k
-  settle h k x = record { stands = λ c f. at c f (needs-pair s c h k) refl; begin = λ c u e z. start c u e z (needs-pair s c h k) refl; path = x .path; four = x .four; block = x .block; expr = x .expr }
+  settle h k x = record { stands = at; begin = start; path = x .path; four = x .four; block = x .block; expr = x .expr }
     where
-      at : (c : Place) → Fair c → (b : Bool) → needs-pair s c h k ≡ b → Level (rank c) (c .records) (say s c h k) (top h k nil)
-      at c f true e =
+      at : (c : Place) → Fair c → (n : ℕ) (χ : Choice) → Suit s c n h k χ → Level (rank c) (c .records) (say s c n h k χ) (top h k nil)
+      at c f (suc n) χ t =
           let r = c .records in
           let g = top h k nil in
           let i : rank c ≤ 8 = low (c .path) (c .level) (and-l (leb (c .level) 7) _ f) in
-          subst (λ (b : Bool). Level (rank c) r (λ z. paired b (body s (inner b c) h k) z) g) (sym e)
-          (climb 8 (rank c) r _ g i (pair r (body s whole h k) g (climb (natural h) 0 records (body s whole h k) g (omega arith) (x .stands whole (whole-free h k)))))
+          climb 8 (rank c) r _ g i (in-more-pairs n r (body s whole h k χ) g (climb (natural h) 0 records (body s whole h k χ) g (omega arith) (x .stands whole χ (whole-free h k) (t .1))))
         where
           low : (p : Bool) (n : ℕ) → T (leb n 7) → cond p n 8 ≤ 8
           low true n t = let j : n ≤ 7 = leb→le n 7 t in omega arith
           low false n t = omega arith
-      at c f false e =
-          let r = c .records in
-          let g = top h k nil in
-          subst (λ (b : Bool). Level (rank c) r (λ z. paired b (body s (inner b c) h k) z) g) (sym e)
-          (climb (natural h) (rank c) r (body s c h k) g (fits (level (label-of s h)) (c .level) (c .path) (eqb (h .kind) kinds.PATH) _ f e) (x .stands c e))
+      at c f zero χ t =
+          let e = off (needs-pair s c h k) (t .0) in
+          climb (natural h) (rank c) (c .records) (body s c h k χ) (top h k nil) (fits (level (label-of s h)) (c .level) (c .path) (eqb (h .kind) kinds.PATH) _ f e) (x .stands c χ e (t .1))
 
-      start : (c : Place) (u : Barred) → c .unless ≡ barred u → (z : List Token) → (b : Bool) → needs-pair s c h k ≡ b → T (not (one-of (peek lists l (say s c h k z)) (barred u)))
-      start c u i z true e = subst (λ (b : Bool). T (not (one-of (peek lists l (paired b (body s (inner b c) h k) z)) (barred u)))) (sym e) (paren-free u)
-      start c u i z false e = subst (λ (b : Bool). T (not (one-of (peek lists l (paired b (body s (inner b c) h k) z)) (barred u)))) (sym e) (x .begin c u e i z)
+      start : (c : Place) (u : Barred) (n : ℕ) (χ : Choice) → Suit s c n h k χ → c .unless ≡ barred u → (z : List Token) → T (not (one-of (peek lists l (say s c n h k χ z)) (barred u)))
+      start c u (suc n) χ t i z = paren-free u
+      start c u zero χ t i z = x .begin c u χ (off (needs-pair s c h k) (t .0)) (t .1) i z

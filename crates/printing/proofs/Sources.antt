@@ -43,7 +43,10 @@ use Rattle.printing.proofs.Back.{Known}
 use Rattle.printing.proofs.Claims.{Knows}
 use Rattle.printing.proofs.Steps.{P}
 use Rattle.printing.proofs.Texts.{Sure}
-use Rattle.printing.proofs.Printed.{RoundTrip, round-trip}
+use Rattle.printing.proofs.ReadsBack.{AllSuit, grove-of}
+use Rattle.printing.proofs.Printed.{RoundTrip, RoundTripOf, chosen-trip, round-trip}
+use Rattle.printing.specs.Groves.{bits}
+use Rattle.printing.specs.Pairs.{Choice}
 
 -- a literal that has a value has a literal's kind
 abbrev Good : Literal → Type 0
@@ -181,3 +184,7 @@ module _ (s : List ℕ) where
   -- the rows of an accepted source, printed as tokens, are read with the same rows and trees
   pub source-round-trip : {p : Parts} (len′ : ℕ) → Text (source s) l TREE 0 p → RoundTrip (source s) kept s (length s) len′ p
   source-round-trip len′ t = round-trip (source s) kept s known sure (length s) len′ (t .reads)
+
+  -- so they are with any pairs that suit them
+  pub source-chosen : {p : Parts} (len′ : ℕ) → Text (source s) l TREE 0 p → (χ : Choice) → AllSuit s p χ → RoundTripOf (bits s kinds.NONE true [] [] (grove-of p) χ) (source s) kept s (length s) len′ p
+  source-chosen len′ t = chosen-trip (source s) kept s known sure (length s) len′ (t .reads)

@@ -19,14 +19,14 @@ use Rattle.grammar.proofs.Frame.{no-text, plain-word}
 use Rattle.canon.specs.Trees.{copied}
 use Rattle.printing.specs.Groves.{Head, Grove, nil, top, beside, State, fresh, with-word, with-text, add, head-for, noted, enter, leave, grow, literal-head}
 use Rattle.printing.specs.Groves as groves
-use Rattle.printing.specs.Spelled.{string-symbols, line-words, Stands, stands-token, stands-string, FromSource}
+use Rattle.printing.specs.Spelled.{string-symbols, sign-words, Stands, stands-token, stands-string, FromSource}
 use Rattle.printing.proofs.Lists.{l}
 use Rattle.printing.proofs.Placed.{disjoint, apart}
 use Rattle.printing.proofs.Back.{alt-at}
 use Rattle.printing.proofs.Notes.{plain-note, plain-notes, plain-if, not-copied}
 use Rattle.printing.proofs.Texts.{grown-read}
 
--- a row of one token, which ends no line
+-- a row of one token, which a print doesn't write by itself
 abbrev nil-symbols : List Symbol → Bool
 nil-symbols [] = true
 nil-symbols (x ∷ t) = false
@@ -36,7 +36,7 @@ noted-alone w [] = false
 noted-alone w (token g v ∷ t) = false
 noted-alone w (phrase o n ∷ t) = false
 noted-alone w (unless v ∷ t) = false
-noted-alone w (note k ∷ t) = nil-symbols t && ((no-text w && disjoint w line-words) && (not (eqb k 0) && not (eqb k kinds.F-STRING)))
+noted-alone w (note k ∷ t) = nil-symbols t && ((no-text w && disjoint w sign-words) && (not (eqb k 0) && not (eqb k kinds.F-STRING)))
 noted-alone w (left-side n m ∷ t) = false
 noted-alone w (text n ∷ t) = false
 
@@ -103,7 +103,7 @@ module _ (S : Stream) (G : Ask → Counts → Token → Bool) where
       go false = (stands (one-of (head .kind) copied) f, u, tt)
 
   -- a row of one token
-  alone : (k : ℕ) (x : Token) (i j : S .Place) → is-text x ≡ false → eqb k kinds.F-STRING ≡ false → S .look i ≡ found x j → T (not (one-of (x .word) line-words)) → FromSource S l G ((noted k (add x fresh)) .kids)
+  alone : (k : ℕ) (x : Token) (i j : S .Place) → is-text x ≡ false → eqb k kinds.F-STRING ≡ false → S .look i ≡ found x j → T (not (one-of (x .word) sign-words)) → FromSource S l G ((noted k (add x fresh)) .kids)
   alone k x i j t f e m = subst (λ (a : State). FromSource S l G ((noted k a) .kids)) (sym is) (note-from k (with-word x fresh) (λ h. stands-token i j (go (eqb k literal-row)) e m) tt)
     where
       is : add x fresh ≡ with-word x fresh
@@ -120,9 +120,9 @@ module _ (S : Stream) (G : Ask → Counts → Token → Bool) where
   noted-from w x (phrase o n ∷ t) h e m u = absurd h
   noted-from w x (unless v ∷ t) h e m u = absurd h
   noted-from {i = i} {j = j} w x (note k ∷ []) h e m (reads-note reads-end) =
-      let h₀ = and-l (no-text w && disjoint w line-words) (not (eqb k 0) && not (eqb k kinds.F-STRING)) h in
-      let h₁ = and-r (no-text w && disjoint w line-words) (not (eqb k 0) && not (eqb k kinds.F-STRING)) h in
-      alone k x i j (plain-word x w (and-l (no-text w) (disjoint w line-words) h₀) m) (F→eq (eqb k kinds.F-STRING) (T-not (eqb k kinds.F-STRING) (and-r (not (eqb k 0)) (not (eqb k kinds.F-STRING)) h₁))) e (apart w line-words (x .word) (and-r (no-text w) (disjoint w line-words) h₀) m)
+      let h₀ = and-l (no-text w && disjoint w sign-words) (not (eqb k 0) && not (eqb k kinds.F-STRING)) h in
+      let h₁ = and-r (no-text w && disjoint w sign-words) (not (eqb k 0) && not (eqb k kinds.F-STRING)) h in
+      alone k x i j (plain-word x w (and-l (no-text w) (disjoint w sign-words) h₀) m) (F→eq (eqb k kinds.F-STRING) (T-not (eqb k kinds.F-STRING) (and-r (not (eqb k 0)) (not (eqb k kinds.F-STRING)) h₁))) e (apart w sign-words (x .word) (and-r (no-text w) (disjoint w sign-words) h₀) m)
   noted-from w x (note k ∷ y ∷ t) h e m u = absurd h
   noted-from w x (left-side n n₁ ∷ t) h e m u = absurd h
   noted-from w x (text n ∷ t) h e m u = absurd h

@@ -195,7 +195,7 @@ module _ (S : Stream) (G : Ask → Counts → Token → Bool) (s : List ℕ) whe
   four-while (all-token {x = x} e y (all-phrase u (all-phrase v (all-note all-end)))) = (_, _, left-trees (has-tok x (plain-word x ('while' ∷ []) tt e) (has-sub refl (u .2) (has-sub refl (v .2) (has-put kinds.WHILE refl refl refl (has-end _))))), while-row s (u .0) (u .1) (u .3) (row-head kinds.BLOCK (v .0) 0) (v .1) (block-says s (v .3)))
 
   four-for : {p : Parts} → Of (head 'for' ∷ phrase same NAME ∷ word 'in' ∷ phrase same (EXPR no-records) ∷ phrase body BLOCK ∷ row kinds.FOR ∷ []) p → Expr s p
-  four-for (all-token {x = x} e y (all-phrase w (all-token {x = x′} e′ y′ (all-phrase u (all-phrase v (all-note all-end)))))) = (_, _, left-trees (has-tok x (plain-word x ('for' ∷ []) tt e) (has-sub refl (w .1) (has-tok x′ (plain-word x′ ('in' ∷ []) tt e′) (has-sub refl (u .2) (has-sub refl (v .2) (has-put kinds.FOR refl refl refl (has-end _))))))), for-row s (u .0) (u .1) (u .3) (row-head kinds.BLOCK (v .0) 0) (v .1) (block-says s (v .3)) (w .0) (w .2))
+  four-for (all-token {x = x} e y (all-phrase w (all-token {x = x′} e′ y′ (all-phrase u (all-phrase v (all-note all-end)))))) = (_, _, left-trees (has-tok x (plain-word x ('for' ∷ []) tt e) (has-sub refl (w .1) (has-tok x′ (plain-word x′ ('in' ∷ []) tt e′) (has-sub refl (u .2) (has-sub refl (v .2) (has-put kinds.FOR refl refl refl (has-end _))))))), for-row s (u .0) (u .1) (u .3) (row-head kinds.BLOCK (v .0) 0) (v .1) (block-says s (v .3)) (w .0) (w .2) refl)
 
   four-match : {p : Parts} → Of (head 'match' ∷ phrase same (EXPR no-records) ∷ opens open-brace ∷ phrase body ARMS ∷ closes close-brace ∷ row kinds.MATCH ∷ []) p → Expr s p
   four-match (all-token {x = x} e y (all-phrase u (all-token {x = x′} e′ y′ (all-phrase v (all-token {x = x″} e″ y″ (all-note all-end)))))) = (_, _, left-trees (has-tok x (plain-word x ('match' ∷ []) tt e) (has-sub refl (u .2) (has-tok x′ (plain-word x′ (open-brace ∷ []) tt e′) (has-sub refl (v .1) (has-tok x″ (plain-word x″ (close-brace ∷ []) tt e″) (has-put kinds.MATCH refl refl refl (has-end _))))))), match-row s (u .0) (u .1) (v .0) (u .3) (v .2))

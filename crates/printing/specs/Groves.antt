@@ -1,8 +1,8 @@
 -- Trees that keep the tokens of what is copied: the tree that a reading leaves, and a tree's tokens at a place.
 use mathlib.Core.List.{List, [], _∷_, _++_}
 use mathlib.Core.Bool.{Bool, true, false, cond}
-use Prim.Native.Nat.{ℕ, _+_}
-use lib.Dec.{eqb}
+use Prim.Native.Nat.{ℕ, zero, suc, _+_}
+use lib.Dec.{T, eqb}
 use lib.Seq.{slice}
 use Rattle.rows.specs.Kinds as kinds
 use Rattle.grammar.specs.Words.{open-paren, close-paren}
@@ -10,8 +10,9 @@ use Rattle.grammar.specs.Grammar.{Token, Parts, end, leaf, node, mark, one-of}
 use Rattle.grammar.specs.Table.{rest-kinds, literal-row}
 use Rattle.grammar.specs.Rows.{detail-for, is-text}
 use Rattle.canon.specs.Trees.{Label, Forest, none, tree, copied}
-use Rattle.canon.specs.Layout.{Place, needs, Slot, layout}
-use Rattle.canon.specs.Text.{inner, place-of, words-of, later}
+use Rattle.canon.specs.Layout.{Place, needs, empty, Slot, layout}
+use Rattle.canon.specs.Text.{Bit, copy, signs, inner, place-of, words-of, later}
+use Rattle.printing.specs.Pairs.{Choice, no-choice, choice, number, under, after, expr-at, within, served, in-pairs}
 
 -- A row of a tree; the tokens of one that is copied.
 pub record Head : Type 0 where
@@ -134,25 +135,65 @@ abbrev pub labelled : List ℕ → Grove → Forest
 labelled s nil = none
 labelled s (top h k t) = tree (label-of s h) (labelled s k) (labelled s t)
 
-abbrev pub paired : Bool → (List Token → List Token) → List Token → List Token
-paired true f z = token-of open-paren ∷ f (token-of close-paren ∷ z)
-paired false f z = f z
+abbrev pub pairs : ℕ → (List Token → List Token) → List Token → List Token
+pairs zero f z = f z
+pairs (suc n) f z = token-of open-paren ∷ pairs n f (token-of close-paren ∷ z)
 
--- the trees in their slots, as tokens, with z behind them
-unfoldable pub said : List ℕ → List Slot → List ℕ → Grove → List Token → List Token
-said s xs last nil z = words last z
-said s xs last (top h k t) z =
+-- the pairs round the first of these trees, which is the first of a row of kind o or not: none where the table has no expr
+abbrev pub pairs-at : List ℕ → ℕ → Bool → Head → Grove → Choice → ℕ
+pairs-at s o i h t χ = cond (expr-at o i (empty (labelled s t)) (h .kind)) (number χ) 0
+
+-- the trees in their slots, as tokens, with the pairs of a choice and z behind them
+unfoldable pub said : List ℕ → ℕ → Bool → List Slot → List ℕ → Grove → Choice → List Token → List Token
+said s o i xs last nil χ z = words last z
+said s o i xs last (top h k t) χ z =
+    let c = place-of xs in
+    let n = pairs-at s o i h t χ in
+    let y = layout (within n c) (label-of s h) (labelled s k) in
+    words (words-of xs) (pairs n (λ z′. cond (one-of (h .kind) copied) (h .tokens ++ z′) (said s (h .kind) true (y .slots) (y .last) k (under χ) z′)) (said s o false (later xs) last t (after χ) z))
+
+-- the same as the print has them
+unfoldable pub bits : List ℕ → ℕ → Bool → List Slot → List ℕ → Grove → Choice → List Bit
+bits s o i xs last nil χ = signs last
+bits s o i xs last (top h k t) χ =
+    let c = place-of xs in
+    let n = pairs-at s o i h t χ in
+    let y = layout (within n c) (label-of s h) (labelled s k) in
+    let own = bits s (h .kind) true (y .slots) (y .last) k (under χ) in
+    signs (words-of xs) ++ (in-pairs n (cond (one-of (h .kind) copied) (copy (bytes-of s (h .kind) (h .tokens)) ∷ []) own) ++ bits s o false (later xs) last t (after χ))
+
+-- no row stands without a pair where it needs one
+abbrev pub Suits : List ℕ → ℕ → Bool → List Slot → Grove → Choice → Type 0
+Suits s o i xs nil χ = Unit {0}
+Suits s o i xs (top h k t) χ =
+    let c = place-of xs in
+    let n = pairs-at s o i h t χ in
+    T (served n c (label-of s h) (labelled s k)) × Suits s (h .kind) true ((layout (within n c) (label-of s h) (labelled s k)) .slots) k (under χ) × Suits s o false (later xs) t (after χ)
+
+-- the print's own choice
+abbrev pub needed : Bool → ℕ
+needed true = 1
+needed false = 0
+
+unfoldable pub by-needs : List ℕ → List Slot → Grove → Choice
+by-needs s xs nil = no-choice
+by-needs s xs (top h k t) =
     let c = place-of xs in
     let b = needs c (label-of s h) (labelled s k) in
-    let y = layout (inner b c) (label-of s h) (labelled s k) in
-    words (words-of xs) (paired b (λ z′. cond (one-of (h .kind) copied) (h .tokens ++ z′) (said s (y .slots) (y .last) k z′)) (said s (later xs) last t z))
+    choice (needed b) (by-needs s ((layout (inner b c) (label-of s h) (labelled s k)) .slots) k) (by-needs s (later xs) t)
 
--- a tree without a pair at a place, and at the place as it asks
-abbrev pub body : List ℕ → Place → Head → Grove → List Token → List Token
-body s c h k z = let y = layout c (label-of s h) (labelled s k) in cond (one-of (h .kind) copied) (h .tokens ++ z) (said s (y .slots) (y .last) k z)
+-- a tree without a pair at a place, and with n of them; what suits it
+abbrev pub body : List ℕ → Place → Head → Grove → Choice → List Token → List Token
+body s c h k χ z = let y = layout c (label-of s h) (labelled s k) in cond (one-of (h .kind) copied) (h .tokens ++ z) (said s (h .kind) true (y .slots) (y .last) k χ z)
+
+abbrev pub Under : List ℕ → Place → Head → Grove → Choice → Type 0
+Under s c h k χ = Suits s (h .kind) true ((layout c (label-of s h) (labelled s k)) .slots) k χ
 
 abbrev pub needs-pair : List ℕ → Place → Head → Grove → Bool
 needs-pair s c h k = needs c (label-of s h) (labelled s k)
 
-abbrev pub say : List ℕ → Place → Head → Grove → List Token → List Token
-say s c h k z = paired (needs-pair s c h k) (body s (inner (needs-pair s c h k) c) h k) z
+abbrev pub say : List ℕ → Place → ℕ → Head → Grove → Choice → List Token → List Token
+say s c n h k χ z = pairs n (body s (within n c) h k χ) z
+
+abbrev pub Suit : List ℕ → Place → ℕ → Head → Grove → Choice → Type 0
+Suit s c n h k χ = T (served n c (label-of s h) (labelled s k)) × Under s (within n c) h k χ

@@ -1,4 +1,5 @@
 pub mod Alike
 pub mod Bare
+pub mod Pairs
 pub mod Groves
 pub mod Spelled

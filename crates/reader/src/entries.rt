@@ -10,18 +10,32 @@ use entry::refused;
 use rows::WIDTH;
 use tokens::Whole;
 
-// (a): a source to its tree. The table is handed on without what is left over behind its rows: it is none to compare with.
-pub fn tree(s: &[u8], table: &mut [u64]) -> Answer
-    ensures { λ a. ⌜ Permitted false true (now (s .entry)) (length (now (table .entry))) a (now (table .exit)) ⌝ }
+// A source to its tree. The table is handed on without what is left over behind its rows: it is none to compare with.
+fn read_tree(s: &[u8], table: &mut [u64], tests: bool) -> Answer
+    ensures { λ a. ⌜ Permitted tests true (now (s .entry)) (length (now (table .entry))) a (now (table .exit)) ⌝ }
 {
     match tokens::check_source(s) {
         Whole::Refused(why) => refused(table, why),
         Whole::Fine => {
             let whole = table.len() / WIDTH * WIDTH;
-            let r = super::tree(s, &mut table[..whole], false);
+            let r = super::tree(s, &mut table[..whole], tests);
             answer(table, s.len(), r)
         }
     }
+}
+
+// (a): a source to its tree.
+pub fn tree(s: &[u8], table: &mut [u64]) -> Answer
+    ensures { λ a. ⌜ Permitted false true (now (s .entry)) (length (now (table .entry))) a (now (table .exit)) ⌝ }
+{
+    read_tree(s, table, false)
+}
+
+// The same by the old grammar, in which `test` is a declaration (C-22).
+pub fn old_tree(s: &[u8], table: &mut [u64]) -> Answer
+    ensures { λ a. ⌜ Permitted true true (now (s .entry)) (length (now (table .entry))) a (now (table .exit)) ⌝ }
+{
+    read_tree(s, table, true)
 }
 
 // (b): a source to one expression.

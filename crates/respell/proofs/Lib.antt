@@ -8,6 +8,7 @@ pub mod Skips
 pub mod Looks
 pub mod Pieces
 pub mod FStrings
+pub mod Endings
 pub mod Respelled
 pub mod Spaced
 pub mod Readings

@@ -1,12 +1,12 @@
 -- The text of a print has no byte of 128 or more, and is a source that passes 1, 2 and 3 where it isn't too long.
-use mathlib.Core.Path.{_≡_, refl}
+use mathlib.Core.Path.{_≡_, refl, subst}
 use mathlib.Core.List.{List, [], _∷_, _++_}
-use mathlib.Core.Bool.{Bool, true, false, _&&_, cond}
+use mathlib.Core.Bool.{Bool, true, false, not, _&&_, cond}
 use Prim.Native.Nat.{ℕ, zero, suc, _+_, _<_, _≤_}
 use native.Mathlib.Omega.{arith}
 use lib.ListN.{length, take, drop}
 use lib.Seq.{slice}
-use lib.Dec.{T, eqb, ltb, ltb→lt}
+use lib.Dec.{T, eqb, ltb, ltb→lt, T-not}
 use borrow.Author.Tests.{ltb-false}
 use Rattle.chars.specs.declared.Class.the-variants.{Ascii}
 use Rattle.chars.specs.Chars.{byteAt, isClass}
@@ -15,20 +15,24 @@ use Rattle.tokens.specs.declared.Whole.the-variants.{Fine}
 use Rattle.tokens.specs.Words.{Entry, twoSigns, oneSigns, keywords}
 use Rattle.tokens.specs.Rules.{pairAt}
 use Rattle.tokens.specs.Tokens.{bad, wholeOf}
-use Rattle.grammar.specs.Grammar.{Ask, Token, Parts, Language}
+use Rattle.values.specs.declared.Literal.{Literal}
+use Rattle.grammar.specs.Grammar.{Ask, Token, found, Stream, Language}
 use Rattle.grammar.specs.Limits.{Counts}
-use Rattle.grammar.specs.Language.{roto, goal}
-use Rattle.grammar.specs.Readings.{Text}
+use Rattle.grammar.specs.Language.{roto}
 use Rattle.grammar.proofs.Bools.{and-l, and-r, both}
-use Rattle.answers.specs.Source.{source}
+use Rattle.answers.specs.Source.{source, tokenFor}
 use Rattle.answers.proofs.Ahead.{true-T, left-true, right-true}
 use Rattle.answers.proofs.Opened.{lexer}
-use Rattle.answers.proofs.Shebang.{reading-fine}
+use Rattle.answers.proofs.Shebang.{shebang-no-token, low-fine}
 use Rattle.canon.specs.Text.{Bit, sign, copy, spelled, spelling, ends-line, blank-between, spaced}
-use Rattle.respell.specs.Spelt.{Spelt, spelt-none, spelt-sign, spelt-token, spelt-string}
+use Rattle.respell.specs.Shown.{is-piece, Again, Shown, shown-token, shown-piece, tokens-of}
+use Rattle.respell.specs.Spelt.{last-line, Spelt, spelt-none, spelt-sign, spelt-token, spelt-string}
 use Rattle.respell.proofs.Skips.{front}
 use Rattle.respell.proofs.Pieces.{byte-tail}
+use Rattle.respell.proofs.Looks.{look-lies}
 use Rattle.respell.proofs.Respelled.{all-of}
+use Rattle.respell.proofs.FStrings.{roto-hole, roto-holes, roto-quotes}
+use Rattle.respell.proofs.Spaced.{no-piece-sign, spaced-shown}
 
 abbrev lows : List ℕ → Bool
 lows [] = true
@@ -105,8 +109,36 @@ module _ (s : List ℕ) (l : Language) (F : Ask → Counts → Token → Bool) (
   unfolding spaced
   print-lows spelt-none = tt
   print-lows (spelt-sign {c = c} {bs = bs} g u) = one-more (sign c) bs (spelled-lows (twoSigns ++ (oneSigns ++ keywords)) c words-low) (print-lows u)
-  print-lows (spelt-token {x = x} i j {bs = bs} g u) = one-more (copy (slice (x .start) j s)) bs (lows-slice s (x .start) j (fine-lows s fine)) (print-lows u)
+  print-lows (spelt-token {x = x} i j {bs = bs} g n u) = one-more (copy (slice (x .start) j s)) bs (lows-slice s (x .start) j (fine-lows s fine)) (print-lows u)
   print-lows (spelt-string {x = x} d i j q {bs = bs} g o y u) = one-more (copy (slice (x .start) (q + 1) s)) bs (lows-slice s (x .start) (q + 1) (fine-lows s fine)) (print-lows u)
 
-pub print-fine : (tests tree : Bool) (s : List ℕ) (F : Ask → Counts → Token → Bool) {bs : List Bit} {xs : List Token} {p : Parts} → wholeOf s ≡ Fine → Spelt s (roto tests) F bs xs → length (spaced bs) ≤ 65535 → Text (source (spaced bs)) (roto tests) (goal tree) 0 p → wholeOf (spaced bs) ≡ Fine
-print-fine tests tree s F {bs = bs} fine u short x = reading-fine tests tree (spaced bs) short (λ at h. lows-byte (spaced bs) at (print-lows s (roto tests) F fine u) h) x
+-- a print begins with a token, or is empty
+opens : (s : List ℕ) (l : Language) (F : Ask → Counts → Token → Bool) {x : Bit} {bs : List Bit} {xs : List Token} → Spelt s l F (x ∷ bs) xs → (y : Token) × (ys : List Token) × (xs ≡ y ∷ ys) × T (not (is-piece (y .word)))
+opens s l F (spelt-sign {c = c} {xs = xs} g u) = (tokenFor c 0 0 Literal.None, xs, refl, no-piece-sign c g)
+opens s l F (spelt-token {x = x} i j {xs = xs} g n u) = (x, xs, refl, (look-lies s i x j g) .2)
+opens s l F (spelt-string {x = x} {p = p} d i j q {xs = xs} g o y u) = (x, tokens-of p ++ xs, refl, (look-lies s i x j g) .2)
+
+shown-first : {S : Stream} {Q : Token → Token → Type 0} {x : Token} {xs : List Token} {i r : S .Place} → T (not (is-piece (x .word))) → Shown S Q (x ∷ xs) i r → (y : Token) × (j : S .Place) × (S .look i ≡ found y j)
+shown-first h (shown-token {y = y} {j = j} e k f u) = (y, j, e)
+shown-first {x = x} h (shown-piece e k f u) = absurd (T-not (is-piece (x .word)) h f)
+
+-- so a print that isn't too long passes 1, 2 and 3
+module _ (tests : Bool) (s : List ℕ) (F : Ask → Counts → Token → Bool) where
+  no-shebang : (bs : List Bit) {xs : List Token} → Spelt s (roto tests) F bs xs → T (last-line bs) → pairAt (spaced bs) 0 35 33 ≡ false
+  unfolding spaced pairAt byteAt
+  no-shebang [] u h = refl
+  no-shebang (x ∷ bs) {xs} u h = go (pairAt (spaced (x ∷ bs)) 0 35 33) refl
+    where
+      w : List ℕ
+      w = spaced (x ∷ bs)
+
+      go : (b : Bool) → pairAt w 0 35 33 ≡ b → b ≡ false
+      go false e = refl
+      go true e =
+          let v = spaced-shown s w (roto tests) (roto-hole tests) (roto-holes tests) (roto-quotes tests) F u h 0 0 refl (omega arith) refl in
+          let o = opens s (roto tests) F u in
+          let f = shown-first (o .3) (subst (λ (z : List Token). Shown (source w) (Again s w (roto tests) F) z 0 (v .stop)) (o .2) (v .shown)) in
+          absurd (shebang-no-token w e (f .2))
+
+  pub print-fine : {bs : List Bit} {xs : List Token} → wholeOf s ≡ Fine → Spelt s (roto tests) F bs xs → T (last-line bs) → length (spaced bs) ≤ 65535 → wholeOf (spaced bs) ≡ Fine
+  print-fine {bs = bs} fine u h short = low-fine (spaced bs) short (λ at k. lows-byte (spaced bs) at (print-lows s (roto tests) F fine u) k) (no-shebang bs u h)

@@ -16,7 +16,7 @@ use Rattle.grammar.proofs.Bools.{and-l, and-r, or-cases}
 use Rattle.grammar.proofs.Pass.{each-passes, passes-at}
 use Rattle.grammar.proofs.Good.{full, filled, all-full, full-filled}
 use Rattle.printing.specs.Alike.{Match, match-end, match-leaf, match-node, match-mark}
-use Rattle.respell.specs.Shown.{bare, Like, is-piece, Shown, shown-none, shown-token, shown-piece}
+use Rattle.respell.specs.Shown.{Like, is-piece, Shown, shown-none, shown-token, shown-piece}
 
 never : (b : Bool) → T (not b) → T b → ⊥
 never true h f = h
@@ -137,32 +137,32 @@ module _ (l : Language) (filling : T (all-full l (l .rules))) (solidly : T (all-
     begins (reads-side {n = n} {n₁ = n₁} {s = s} {r = r} {p = p} o t m u) h f = elim (begins t (solid-one n o) (bare-one n o)) [ inl g ↦ inl g | inr e ↦ subst (λ (c : List Token). Heads c ⊎ (c ≡ r)) (sym e) (begins u (solid-on (l .is-path p) n₁ s h) (bare-on (l .is-path p) n₁ s f)) ]
     begins (reads-text e k t) h f = absurd f
 
-  module _ (S : Stream) (stop : S .Place) (G G′ : Ask → Counts → Token → Bool)
+  module _ (S : Stream) (stop : S .Place) (Q : Token → Token → Type 0) (as-like : (x y : Token) → Q x y → Like x y) (G G′ : Ask → Counts → Token → Bool)
       (passes : (g : Ask) (d : Counts) (x y : Token) → Like x y → T (G g d x) → T (G′ g d y))
-      (paths : (p q : Parts) → Match Like p q → l .is-path p ≡ l .is-path q) where
+      (paths : (p q : Parts) → Match Q p q → l .is-path p ≡ l .is-path q) where
     pub record Carried (d : Counts) (s : List Symbol) (z : List Token) (p : Parts) (i : S .Place) : Type 0 where
       pub to : S .Place
       pub parts : Parts
       pub reads : ReadingBy S l G′ d s i to parts
-      pub there : Shown S z to stop
-      pub alike : Match Like p parts
+      pub there : Shown S Q z to stop
+      pub alike : Match Q p parts
 
     pub record Taken (x : Token) (c : List Token) (saw : Token → S .Place → Type 0) : Type 0 where
       pub token : Token
       pub next : S .Place
       pub seen : saw token next
-      pub like : Like x token
-      pub on-from : Shown S c next stop
+      pub like : Q x token
+      pub on-from : Shown S Q c next stop
 
-    take-token : {c c′ : List Token} {x : Token} {i : S .Place} → look-at c ≡ found x c′ → T (not (is-piece (x .word))) → Shown S c i stop → Taken x c′ (λ y j. S .look i ≡ found y j)
+    take-token : {c c′ : List Token} {x : Token} {i : S .Place} → look-at c ≡ found x c′ → T (not (is-piece (x .word))) → Shown S Q c i stop → Taken x c′ (λ y j. S .look i ≡ found y j)
     take-token z h shown-none = let v : _≡_ {A = ℕ} 0 1 = cc in absurd (omega arith)
     take-token {c′ = c′} {x = x} z h (shown-token {x = x₁} {y = y} {xs = ts} {j = j} k b f u) =
         let a : x₁ ≡ x = cc in
         let o : ts ≡ c′ = cc in
-        record { token = y; next = j; seen = k; like = b ∙ ap bare a; on-from = subst (λ (c : List Token). Shown S c j stop) o u }
+        record { token = y; next = j; seen = k; like = subst (λ (t : Token). Q t y) a b; on-from = subst (λ (c : List Token). Shown S Q c j stop) o u }
     take-token {x = x} z h (shown-piece {x = x₁} k b f u) = let a : x₁ ≡ x = cc in absurd (never (is-piece (x .word)) h (subst (λ (o : Token). T (is-piece (o .word))) a f))
 
-    take-piece : {c c′ : List Token} {x : Token} {i : S .Place} → piece-at c ≡ found x c′ → Shown S c i stop → Taken x c′ (λ y j. S .piece i ≡ found y j)
+    take-piece : {c c′ : List Token} {x : Token} {i : S .Place} → piece-at c ≡ found x c′ → Shown S Q c i stop → Taken x c′ (λ y j. S .piece i ≡ found y j)
     take-piece z shown-none = let v : _≡_ {A = ℕ} 0 1 = cc in absurd (omega arith)
     take-piece {c′ = c′} {x = x} {i = i} z (shown-token {x = x₁} {xs = ts} k b f u) = absurd (by (is-piece (x₁ .word)) f z)
       where
@@ -173,7 +173,7 @@ module _ (l : Language) (filling : T (all-full l (l .rules))) (solidly : T (all-
         let e = by (is-piece (x₁ .word)) f z in
         let a : x₁ ≡ x = cc in
         let o : ts ≡ c′ = cc in
-        record { token = y; next = j; seen = k; like = b ∙ ap bare a; on-from = subst (λ (c : List Token). Shown S c j stop) o u }
+        record { token = y; next = j; seen = k; like = subst (λ (t : Token). Q t y) a b; on-from = subst (λ (c : List Token). Shown S Q c j stop) o u }
       where
         by : (b : Bool) → T b → cond b (found x₁ ts) over ≡ found x c′ → found x₁ ts ≡ found x c′
         by true g e = e
@@ -183,18 +183,18 @@ module _ (l : Language) (filling : T (all-full l (l .rules))) (solidly : T (all-
     word-like x y e = sym (ap (λ (o : Token). o .word) e)
 
     -- at a token, the list and the source show the same word
-    peek-like : {c : List Token} {i : S .Place} → Heads c → Shown S c i stop → peek lists l c ≡ peek S l i
+    peek-like : {c : List Token} {i : S .Place} → Heads c → Shown S Q c i stop → peek lists l c ≡ peek S l i
     peek-like {c} {i} h u =
-        let v = take-token {c = h .first ∷ h .rest} refl (h .plain) (subst (λ (o : List Token). Shown S o i stop) (h .is) u) in
-        ap (peek lists l) (h .is) ∙ word-like (h .first) (v .token) (v .like) ∙ sym (ap (word-of S l) (v .seen))
+        let v = take-token {c = h .first ∷ h .rest} refl (h .plain) (subst (λ (o : List Token). Shown S Q o i stop) (h .is) u) in
+        ap (peek lists l) (h .is) ∙ word-like (h .first) (v .token) (as-like (h .first) (v .token) (v .like)) ∙ sym (ap (word-of S l) (v .seen))
 
-    pub read-shown : {d : Counts} {s : List Symbol} {c z : List Token} {i : S .Place} {p : Parts} → ReadingBy lists l G d s c z p → T (solid l s) → Shown S c i stop → Carried d s z p i
+    pub read-shown : {d : Counts} {s : List Symbol} {c z : List Token} {i : S .Place} {p : Parts} → ReadingBy lists l G d s c z p → T (solid l s) → Shown S Q c i stop → Carried d s z p i
     read-shown {i = i} reads-end h u = record { to = i; parts = end; reads = reads-end; there = u; alike = match-end }
     read-shown (reads-token {d = d} {g = g} {w = w} {s = s} {x = x} e m k t) h u =
         let v = take-token e (wordy-one w (x .word) (and-l (wordy w) (solid l s) h) m) u in
         let y = v .token in
         let r = read-shown t (and-r (wordy w) (solid l s) h) (v .on-from) in
-        record { to = r .to; parts = leaf y (r .parts); reads = reads-token (v .seen) (subst (λ (n : ℕ). T (one-of n w)) (word-like x y (v .like)) m) (passes g d x y (v .like) k) (r .reads); there = r .there; alike = match-leaf (v .like) (r .alike) }
+        record { to = r .to; parts = leaf y (r .parts); reads = reads-token (v .seen) (subst (λ (n : ℕ). T (one-of n w)) (word-like x y (as-like x y (v .like))) m) (passes g d x y (as-like x y (v .like)) k) (r .reads); there = r .there; alike = match-leaf (v .like) (r .alike) }
     read-shown (reads-phrase {n = n} {a = a} o t v) h u =
         let b = read-shown t (solid-one n o) u in
         let r = read-shown v h (b .there) in
@@ -216,4 +216,4 @@ module _ (l : Language) (filling : T (all-full l (l .rules))) (solidly : T (all-
         let v = take-piece e u in
         let y = v .token in
         let r = read-shown t (solid-on (eqb (x .word) (l .hole)) n s h) (v .on-from) in
-        record { to = r .to; parts = leaf y (r .parts); reads = reads-text (v .seen) (passes has-value d x y (v .like) k) (subst (λ (z : ℕ). ReadingBy S l G′ (after has-value d) (cond (eqb z (l .hole)) (phrase same n ∷ s) s) (v .next) (r .to) (r .parts)) (word-like x y (v .like)) (r .reads)); there = r .there; alike = match-leaf (v .like) (r .alike) }
+        record { to = r .to; parts = leaf y (r .parts); reads = reads-text (v .seen) (passes has-value d x y (as-like x y (v .like)) k) (subst (λ (z : ℕ). ReadingBy S l G′ (after has-value d) (cond (eqb z (l .hole)) (phrase same n ∷ s) s) (v .next) (r .to) (r .parts)) (word-like x y (as-like x y (v .like))) (r .reads)); there = r .there; alike = match-leaf (v .like) (r .alike) }

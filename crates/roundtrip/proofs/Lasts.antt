@@ -45,11 +45,11 @@ zero-if true n t h = h
 zero-if false n t h = h
 
 -- a token that is looked at stands first
-looked : (c c′ : List Token) (x : Token) → look-at c ≡ found x c′ → c ≡ x ∷ c′
+pub looked : (c c′ : List Token) (x : Token) → look-at c ≡ found x c′ → c ≡ x ∷ c′
 looked [] c′ x e = let v : _≡_ {A = ℕ} 0 1 = cc in absurd (omega arith)
 looked (y ∷ c) c′ x e = let u : y ≡ x = cc in let v : c ≡ c′ = cc in cc
 
-pieced : (c c′ : List Token) (x : Token) → piece-at c ≡ found x c′ → (c ≡ x ∷ c′) × T (one-of (x .word) (text-then-hole ∷ last-text ∷ []))
+pub pieced : (c c′ : List Token) (x : Token) → piece-at c ≡ found x c′ → (c ≡ x ∷ c′) × T (one-of (x .word) (text-then-hole ∷ last-text ∷ []))
 pieced [] c′ x e = let v : _≡_ {A = ℕ} 0 1 = cc in absurd (omega arith)
 pieced (y ∷ c) c′ x e = by (one-of (y .word) (text-then-hole ∷ last-text ∷ [])) refl e
   where
@@ -91,20 +91,20 @@ last-two (x ∷ z ∷ xs) y = last-two (z ∷ xs) y
 abbrev ending-kinds : List ℕ
 ending-kinds = TREE ∷ DECLARATIONS ∷ DECLARATION ∷ IMPORT ∷ BLOCK ∷ []
 
-abbrev within : List ℕ → List ℕ → Bool
-within [] v = true
-within (c ∷ w) v = one-of c v && within w v
+abbrev pub covered : List ℕ → List ℕ → Bool
+covered [] v = true
+covered (c ∷ w) v = one-of c v && covered w v
 
-within-one : (w v : List ℕ) (c : ℕ) → T (within w v) → T (one-of c w) → T (one-of c v)
+pub within-one : (w v : List ℕ) (c : ℕ) → T (covered w v) → T (one-of c w) → T (one-of c v)
 within-one [] v c h m = absurd m
 within-one (x ∷ w) v c h m = elim (or-cases (eqb c x) (one-of c w) m) [
-  | inl e ↦ subst (λ (n : ℕ). T (one-of n v)) (sym (eqb→eq c x e)) (and-l (one-of x v) (within w v) h)
-  | inr k ↦ within-one w v c (and-r (one-of x v) (within w v) h) k
+  | inl e ↦ subst (λ (n : ℕ). T (one-of n v)) (sym (eqb→eq c x e)) (and-l (one-of x v) (covered w v) h)
+  | inr k ↦ within-one w v c (and-r (one-of x v) (covered w v) h) k
 ]
 
 abbrev ended : List Symbol → Bool
 ended [] = true
-ended (token g w ∷ t) = ended t && (filled l t || within w line-words)
+ended (token g w ∷ t) = ended t && (filled l t || covered w line-words)
 ended (phrase o n ∷ t) = ended t && (filled l t || one-of n ending-kinds)
 ended (unless w ∷ t) = ended t
 ended (note k ∷ t) = ended t
@@ -140,8 +140,8 @@ module _ {G : Ask → Counts → Token → Bool} where
 
   lasts : {d : Counts} {t : List Symbol} {c z : List Token} {p : Parts} → ReadingBy lists l G d t c z p → T (ended t) → Ends c z
   lasts reads-end h = inl refl
-  lasts (reads-token {w = w} {s = t} {x = x} {i = c} {j = c′} {r = z} e m k v) h = elim (lasts v (and-l (ended t) (filled l t || within w line-words) h)) [
-    | inl i ↦ elim (or-cases (filled l t) (within w line-words) (and-r (ended t) (filled l t || within w line-words) h)) [
+  lasts (reads-token {w = w} {s = t} {x = x} {i = c} {j = c′} {r = z} e m k v) h = elim (lasts v (and-l (ended t) (filled l t || covered w line-words) h)) [
+    | inl i ↦ elim (or-cases (filled l t) (covered w line-words) (and-r (ended t) (filled l t || covered w line-words) h)) [
       | inl f ↦ absurd (moves v f i)
       | inr f ↦ inr ([], x, looked c c′ x e ∙ ap (λ (o : List Token). x ∷ o) i, within-one w line-words (x .word) f m)
     ]

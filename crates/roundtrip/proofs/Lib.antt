@@ -1,4 +1,10 @@
 pub mod Signs
 pub mod Lasts
 pub mod Meets
+pub mod Twins
+pub mod Texts
 pub mod ReadsBack
+pub mod Tests
+pub mod Answers
+pub mod Nine
+pub mod OneWay

@@ -1,7 +1,7 @@
 -- The words of a print that aren't copied are signs and keywords.
 use mathlib.Core.List.{List, [], _∷_, _++_}
 use mathlib.Core.Bool.{Bool, true, false, not, _&&_, _||_, cond}
-use Prim.Native.Nat.{ℕ, pred}
+use Prim.Native.Nat.{ℕ, zero, suc, pred}
 use lib.Dec.{T, eqb}
 use Rattle.rows.specs.Kinds as kinds
 use Rattle.grammar.specs.Words.{'->', open-brace, close-brace, open-paren, close-paren, open-bracket, close-bracket, ':', semicolon, comma, dot, '=', 'else', 'if', assign-signs, binary-signs, return-words, filter-words}
@@ -12,21 +12,22 @@ use Rattle.canon.specs.Trees.{Label, Forest, none, tree, copied}
 use Rattle.canon.specs.Layout.{Place, whole, needs, Slot, Layout, _then_, Entry, each, joined, list-in, headed, statements, between, behind, is-expr, is-four, arms, arm, body, imports, rest, empty, first-kind, nth, by, done, layout-in, layouts, layout}
 use Rattle.canon.specs.Layout as canon
 use Rattle.canon.specs.Text.{Bit, sign, copy, signs, paired, inner, place-of, words-of, later, fill, tokens}
+use Rattle.printing.specs.Pairs.{in-pairs}
 use Rattle.respell.specs.Spelt.{is-sign}
 
 -- a sign or keyword, or the word 0, which no token has
 unfoldable pub sure-word : ℕ → Bool
 sure-word c = is-sign c || eqb c 0
 
-abbrev sure : List ℕ → Bool
+abbrev pub sure : List ℕ → Bool
 sure [] = true
 sure (c ∷ w) = sure-word c && sure w
 
-abbrev sure-slots : List Slot → Bool
+abbrev pub sure-slots : List Slot → Bool
 sure-slots [] = true
 sure-slots (x ∷ xs) = sure (x .words) && sure-slots xs
 
-abbrev Good : Layout → Type 0
+abbrev pub Good : Layout → Type 0
 Good y = T (sure-slots (y .slots)) × T (sure (y .last))
 
 two : (v w : List ℕ) → T (sure v) → T (sure w) → T (sure (v ++ w))
@@ -235,7 +236,7 @@ all-good c v d ts = (
   ),
 )
 
-layout-good : (c : Place) (a : Label) (ts : Forest) → Good (layout c a ts)
+pub layout-good : (c : Place) (a : Label) (ts : Forest) → Good (layout c a ts)
 unfolding layout
 layout-good c a ts = good-in (layouts c (a .value) (a .detail) ts) (a .kind) (all-good c (a .value) (a .detail) ts)
 
@@ -244,12 +245,12 @@ sure-bits [] = true
 sure-bits (sign c ∷ bs) = sure-word c && sure-bits bs
 sure-bits (copy t ∷ bs) = sure-bits bs
 
-bits-two : (bs cs : List Bit) → T (sure-bits bs) → T (sure-bits cs) → T (sure-bits (bs ++ cs))
+pub bits-two : (bs cs : List Bit) → T (sure-bits bs) → T (sure-bits cs) → T (sure-bits (bs ++ cs))
 bits-two [] cs h k = k
 bits-two (sign c ∷ bs) cs h k = both (sure-word c) (sure-bits (bs ++ cs)) (and-l (sure-word c) (sure-bits bs) h) (bits-two bs cs (and-r (sure-word c) (sure-bits bs) h) k)
 bits-two (copy t ∷ bs) cs h k = bits-two bs cs h k
 
-signs-sure : (w : List ℕ) → T (sure w) → T (sure-bits (signs w))
+pub signs-sure : (w : List ℕ) → T (sure w) → T (sure-bits (signs w))
 signs-sure [] h = tt
 signs-sure (c ∷ w) h = both (sure-word c) (sure-bits (signs w)) (and-l (sure-word c) (sure w) h) (signs-sure w (and-r (sure-word c) (sure w) h))
 
@@ -258,15 +259,19 @@ unfolding lexer sure-word
 paired-sure true bs h = bits-two bs (sign close-paren ∷ []) h tt
 paired-sure false bs h = h
 
-words-sure : (xs : List Slot) → T (sure-slots xs) → T (sure (words-of xs))
+pub pairs-sure : (n : ℕ) (bs : List Bit) → T (sure-bits bs) → T (sure-bits (in-pairs n bs))
+pairs-sure zero bs h = h
+pairs-sure (suc n) bs h = paired-sure true (in-pairs n bs) (pairs-sure n bs h)
+
+pub words-sure : (xs : List Slot) → T (sure-slots xs) → T (sure (words-of xs))
 words-sure [] h = tt
 words-sure (x ∷ xs) h = and-l (sure (x .words)) (sure-slots xs) h
 
-later-sure : (xs : List Slot) → T (sure-slots xs) → T (sure-slots (later xs))
+pub later-sure : (xs : List Slot) → T (sure-slots xs) → T (sure-slots (later xs))
 later-sure [] h = tt
 later-sure (x ∷ xs) h = and-r (sure (x .words)) (sure-slots xs) h
 
-own-sure : (b : Bool) (t : List ℕ) (bs : List Bit) → T (sure-bits bs) → T (sure-bits (cond b (copy t ∷ []) bs))
+pub own-sure : (b : Bool) (t : List ℕ) (bs : List Bit) → T (sure-bits bs) → T (sure-bits (cond b (copy t ∷ []) bs))
 own-sure true t bs h = tt
 own-sure false t bs h = h
 

@@ -1,1 +1,3 @@
 pub mod ReadsBack
+pub mod Prints
+pub mod OneWay

@@ -12,6 +12,7 @@ use Rattle.grammar.specs.Readings.{ReadingBy}
 use Rattle.grammar.specs.Language.{roto, start}
 use Rattle.answers.specs.Source.{source}
 use Rattle.answers.specs.Demands.{Reading, ByRules, rowsOf}
+use Rattle.canon.specs.Trees.{tree-of}
 use Rattle.canon.specs.Text.{printed}
 use Rattle.printing.specs.Bare.{bare-rows}
 
@@ -36,11 +37,15 @@ pub record Valued (s : List ℕ) (p : Parts) : Type 0 where
   pub whole : (source s) .look stop ≡ over
 
 -- The print has a reading by the rules and its literals hold, limits set aside; its rows are those of the source but for their
--- bytes. Where the print is accepted, no limit being passed, that is its reading, and the rules for whole sources hold too.
+-- bytes. It is "the same tree, with spans set aside but the text of each name, float and string compared": in `tree-of` stand
+-- the texts of all rows that are copied. "Printing that print again changes nothing." Where the print is accepted, no limit
+-- being passed, that is its reading. If it isn't too long, it passes 1, 2 and 3.
 pub record ReadsBack (s : List ℕ) (p : Parts) : Type 0 where
   pub parts : Parts
   pub by-rules : ByRules true true (print-of s p) parts
   pub literals-hold : Valued (print-of s p) parts
   pub same-rows : bare-rows (rowsOf true (print-of s p) parts) ≡ bare-rows (rowsOf true s p)
+  pub same-trees : tree-of (print-of s p) (rowsOf true (print-of s p) parts) ≡ tree-of s (rowsOf true s p)
+  pub again : print-of (print-of s p) parts ≡ print-of s p
   pub accepted : {q : Parts} → Reading true true (print-of s p) q → q ≡ parts
-  pub fine : {q : Parts} → wholeOf s ≡ Fine → length (print-of s p) ≤ 65535 → Reading true true (print-of s p) q → wholeOf (print-of s p) ≡ Fine
+  pub fine : wholeOf s ≡ Fine → length (print-of s p) ≤ 65535 → wholeOf (print-of s p) ≡ Fine

@@ -1,9 +1,9 @@
 -- Bytes and tokens, one after the other.
 use mathlib.Core.Path.{_≡_, refl, sym, ap, _∙_}
-use mathlib.Core.List.{List, [], _∷_, _++_}
+use mathlib.Core.List.{List, [], _∷_, _++_, append-assoc, append-nil}
 use mathlib.Core.Bool.{Bool, true, false, _||_}
 use mathlib.Core.Logic.{_⊎_, inl, inr, _≢_}
-use Prim.Native.Nat.{ℕ, zero, suc, _+_, _-_, _≤_, _<_}
+use Prim.Native.Nat.{ℕ, zero, suc, _+_, _-_, _*_, _/_, _%_, _≤_, _<_}
 use lib.Dec.{T, ltb, le→leb, leb→le}
 use lib.ListN.{length, set, getD}
 use lib.Seq.{slice}
@@ -12,8 +12,10 @@ use native.Mathlib.Omega.{arith}
 use Rattle.grammar.proofs.Bools.{T→eq, F→eq}
 use Rattle.tokens.specs.Words.{Entry}
 use Rattle.canon.specs.Text.{Bit, sign, spelled, spelling, ends-line}
+use Rattle.canon.specs.Events.{opening}
 use Rattle.sink.specs.declared.Sink.{Sink}
-use Rattle.sink.specs.Told.{Written, written, counted, put, fed, wordText, blank, Told, state, tell, telling, digit}
+use Rattle.sink.specs.Few.{is-prefix, rowBehind}
+use Rattle.sink.specs.Told.{Written, written, counted, put, fed, wordText, blank, Told, state, tell, telling, digit, said, saying}
 
 pub put-in : (t : List ℕ) (n b r : ℕ) → n < length t → r ≡ counted n → written (set t n b) r ≡ put (written t n) b
 unfolding put
@@ -78,7 +80,7 @@ fed-append x (c ∷ a) b = fed-append (put x c) a b
 pub telling-append : (x : Told) (a b : List Bit) → telling x (a ++ b) ≡ telling (telling x a) b
 unfolding telling
 telling-append x [] b = refl
-telling-append x (c ∷ a) b = telling-append (tell x (spelling c) (ends-line c)) a b
+telling-append x (c ∷ a) b = telling-append (tell x c) a b
 
 -- a chain groups to the left, a list to the right
 pub chain3 : (a b c : Bool) → ((a || b) || c) ≡ (a || (b || (c || false)))
@@ -95,25 +97,108 @@ pub same-text : (x y : Written) (a b : List ℕ) → y ≡ fed x a → b ≡ a �
 same-text x y a b h e = h ∙ ap (fed x) (sym e)
 
 -- a token, without a newline and with one
-pub told-word : (t0 t1 t2 : List ℕ) (s : Sink) (a1 a2 : ℕ) (w : List ℕ) (l : Bool) → written t1 a1 ≡ fed (written t0 (s .at)) (blank (s .gap)) → written t2 a2 ≡ fed (written t1 a1) w → l ≡ false → state t2 (record { at = a2; gap = true }) ≡ tell (state t0 s) w l
+pub told-word : (t0 t1 t2 : List ℕ) (s : Sink) (a1 a2 r : ℕ) (b : Bit) → written t1 a1 ≡ fed (written t0 (s .at)) (blank (s .gap)) → written t2 a2 ≡ fed (written t1 a1) (spelling b) → ends-line b ≡ false → r ≡ rowBehind (s .row) (is-prefix b) → state t2 (record { at = a2; gap = true; row = r }) ≡ tell (state t0 s) b
 unfolding tell fed
-told-word t0 t1 t2 s a1 a2 w l e1 e2 h = rw h (ap (λ (y : Written). state (y .text) (record { at = y .at; gap = true })) (e2 ∙ ap (λ (y : Written). fed y w) e1))
+told-word t0 t1 t2 s a1 a2 r b e1 e2 h q = rw (h, q) (ap (λ (y : Written). state (y .text) (record { at = y .at; gap = true; row = rowBehind (s .row) (is-prefix b) })) (e2 ∙ ap (λ (y : Written). fed y (spelling b)) e1))
 
-pub told-line : (t0 t1 t2 t3 : List ℕ) (s : Sink) (a1 a2 a3 : ℕ) (w : List ℕ) (l : Bool) → written t1 a1 ≡ fed (written t0 (s .at)) (blank (s .gap)) → written t2 a2 ≡ fed (written t1 a1) w → written t3 a3 ≡ put (written t2 a2) 10 → l ≡ true → state t3 (record { at = a3; gap = false }) ≡ tell (state t0 s) w l
+pub told-line : (t0 t1 t2 t3 : List ℕ) (s : Sink) (a1 a2 a3 r : ℕ) (b : Bit) → written t1 a1 ≡ fed (written t0 (s .at)) (blank (s .gap)) → written t2 a2 ≡ fed (written t1 a1) (spelling b) → written t3 a3 ≡ put (written t2 a2) 10 → ends-line b ≡ true → r ≡ rowBehind (s .row) (is-prefix b) → state t3 (record { at = a3; gap = false; row = r }) ≡ tell (state t0 s) b
 unfolding tell fed
-told-line t0 t1 t2 t3 s a1 a2 a3 w l e1 e2 e3 h = rw h (ap (λ (y : Written). state (y .text) (record { at = y .at; gap = false })) (e3 ∙ ap (λ (y : Written). put y 10) (e2 ∙ ap (λ (y : Written). fed y w) e1)))
+told-line t0 t1 t2 t3 s a1 a2 a3 r b e1 e2 e3 h q = rw (h, q) (ap (λ (y : Written). state (y .text) (record { at = y .at; gap = false; row = rowBehind (s .row) (is-prefix b) })) (e3 ∙ ap (λ (y : Written). put y 10) (e2 ∙ ap (λ (y : Written). fed y (spelling b)) e1)))
+
+-- a word of the lexer's lists
+pub word-spelled : (x y : Written) (w : ℕ) → y ≡ fed x (wordText w) → y ≡ fed x (spelling (sign w))
+unfolding wordText
+word-spelled x y w e = e
 
 pub told-none : (x : Told) → x ≡ telling x []
 unfolding telling
 told-none x = refl
 
-pub told-one : (x y : Told) (w : ℕ) → y ≡ tell x (wordText w) (ends-line (sign w)) → y ≡ telling x (sign w ∷ [])
-unfolding telling wordText
+told-one : (x y : Told) (w : ℕ) → y ≡ tell x (sign w) → y ≡ telling x (sign w ∷ [])
+unfolding telling
 told-one x y w e = e
 
-pub told-digit : (x y : Told) (d : ℕ) → d ≢ 0 → y ≡ tell x (wordText (d - 1)) (ends-line (sign (d - 1))) → y ≡ telling x (digit d)
+pub told-digit : (x y : Told) (d : ℕ) → d ≢ 0 → y ≡ tell x (sign (d - 1)) → y ≡ telling x (digit d)
 told-digit x y zero n e = absurd (n refl)
 told-digit x y (suc d) n e = let q : suc d - 1 ≡ d = omega arith in told-one x y d (rw q at e)
 
-pub told-three : (x y z v : Told) (a b c : ℕ) → y ≡ telling x (digit a) → z ≡ telling y (digit b) → v ≡ telling z (digit c) → v ≡ telling x (digit a ++ (digit b ++ digit c))
-told-three x y z v a b c p q r = r ∙ ap (λ (k : Told). telling k (digit c)) (q ∙ ap (λ (k : Told). telling k (digit b)) p) ∙ sym (telling-append (telling x (digit a)) (digit b) (digit c)) ∙ sym (telling-append x (digit a) (digit b ++ digit c))
+-- words in a number, digit by digit
+pub no-words : (x : Told) (k : ℕ) → x ≡ telling x (saying k 0)
+unfolding telling saying
+no-words x zero = refl
+no-words x (suc k) = no-words x k
+
+pub word-more : (x y z : Told) (k n : ℕ) → telling x (saying (suc k) n) ≡ z → y ≡ telling x (digit (n % 128)) → telling y (saying k (n / 128)) ≡ z
+unfolding saying
+word-more x y z k n h e = ap (λ (v : Told). telling v (saying k (n / 128))) e ∙ sym (telling-append x (digit (n % 128)) (saying k (n / 128))) ∙ h
+
+-- the digits of a number that has another on top; of the low ones alone
+low-0 : (n d : ℕ) → (n % 2097152 + 2097152 * d) % 128 ≡ n % 128
+low-0 n d = omega arith
+
+low-1 : (n d : ℕ) → (n % 2097152 + 2097152 * d) / 128 ≡ n / 128 % 16384 + 16384 * d
+low-1 n d = omega arith
+
+low-2 : (n d : ℕ) → (n % 16384 + 16384 * d) % 128 ≡ n % 128
+low-2 n d = omega arith
+
+low-3 : (n d : ℕ) → (n % 16384 + 16384 * d) / 128 ≡ n / 128 % 128 + 128 * d
+low-3 n d = omega arith
+
+low-4 : (n d : ℕ) → (n % 128 + 128 * d) % 128 ≡ n % 128
+low-4 n d = omega arith
+
+low-5 : (n d : ℕ) → (n % 128 + 128 * d) / 128 ≡ d
+low-5 n d = omega arith
+
+twice : (n : ℕ) → n / 128 / 128 ≡ n / 16384
+twice n = omega arith
+
+-- three words and one behind them
+pub said-four : (n d : ℕ) → d ≤ 127 → saying 4 (n % 2097152 + 2097152 * d) ≡ said n ++ digit d
+unfolding saying
+said-four n d h =
+    let last : d % 128 ≡ d = omega arith in
+    let third : digit ((n / 16384 % 128 + 128 * d) % 128) ++ saying 1 ((n / 16384 % 128 + 128 * d) / 128) ≡ digit (n / 16384 % 128) ++ digit d
+    = (λ i. digit (low-4 (n / 16384) d i) ++ saying 1 (low-5 (n / 16384) d i)) ∙ ap (λ (z : List Bit). digit (n / 16384 % 128) ++ z) (ap (λ (k : ℕ). digit k ++ []) last ∙ append-nil (digit d)) in
+    let second : saying 3 (n / 128 % 16384 + 16384 * d) ≡ digit (n / 128 % 128) ++ (digit (n / 16384 % 128) ++ digit d)
+    = (λ i. digit (low-2 (n / 128) d i) ++ saying 2 (low-3 (n / 128) d i)) ∙ ap (λ (k : ℕ). digit (n / 128 % 128) ++ saying 2 (k % 128 + 128 * d)) (twice n) ∙ ap (λ (z : List Bit). digit (n / 128 % 128) ++ z) third in
+    (λ i. digit (low-0 n d i) ++ saying 3 (low-1 n d i))
+    ∙ ap (λ (z : List Bit). digit (n % 128) ++ z) second
+    ∙ sym (append-assoc (digit (n % 128)) (digit (n / 128 % 128) ++ digit (n / 16384 % 128)) (digit d) ∙ ap (λ (z : List Bit). digit (n % 128) ++ z) (append-assoc (digit (n / 128 % 128)) (digit (n / 16384 % 128)) (digit d)))
+
+-- a number of so many digits
+unfoldable pub Below : ℕ → ℕ → Type 0
+Below zero n = n ≡ 0
+Below (suc k) n = Below k (n / 128)
+
+four-digits : (n d : ℕ) → d ≤ 127 → Below 4 (n % 2097152 + 2097152 * d)
+unfolding Below
+four-digits n d h = ap (λ (m : ℕ). m / 128 / 128 / 128) (low-1 n d) ∙ ap (λ (m : ℕ). m / 128 / 128) (low-3 (n / 128) d) ∙ ap (λ (m : ℕ). m / 128) (low-5 (n / 128 / 128) d) ∙ omega arith
+
+-- the loop over them: its start, a turn, its end
+pub begins-so : (x : Told) (n d : ℕ) (pair : Bool) → digit d ≡ opening pair → d ≤ 127 → (k : ℕ) × Below k (n % 2097152 + 2097152 * d) × (telling x (saying k (n % 2097152 + 2097152 * d)) ≡ telling x (said n ++ opening pair))
+begins-so x n d pair e h = (4, four-digits n d h, ap (telling x) (said-four n d h ∙ ap (λ (z : List Bit). said n ++ z) e))
+
+pub goes-on : (x y z : Told) (n : ℕ) → (k : ℕ) × Below k n × (telling x (saying k n) ≡ z) → 0 < n → y ≡ telling x (digit (n % 128)) → (k : ℕ) × Below k (n / 128) × (telling y (saying k (n / 128)) ≡ z)
+unfolding Below
+goes-on x y z n (zero, b, h) p e = absurd (omega arith)
+goes-on x y z n (suc k, b, h) p e = (k, b, word-more x y z k n h e)
+
+pub ends-so : (x z : Told) (n : ℕ) → (k : ℕ) × Below k n × (telling x (saying k n) ≡ z) → n ≤ 0 → x ≡ z
+ends-so x z n (k, b, h) p = let q : n ≡ 0 = omega arith in no-words x k ∙ ap (λ (m : ℕ). telling x (saying k m)) (sym q) ∙ h
+
+-- how prefixes in a row go on
+pub too-many : (c : ℕ) (p : Bool) → 32 < c → c ≡ rowBehind c p
+too-many c p h = let q : ltb 32 c ≡ true = T→eq _ (le→leb 33 c h) in rw q refl
+
+pub behind-prefix : (c r : ℕ) (p : Bool) → c ≤ 32 → p ≡ true → r ≡ c + 1 → r ≡ rowBehind c p
+behind-prefix c r p h e k = let q : ltb 32 c ≡ false = F→eq _ (λ (z : T (ltb 32 c)). let l = leb→le 33 c z in omega arith) in rw (q, e) k
+
+pub behind-other : (c : ℕ) (p : Bool) → c ≤ 32 → p ≡ false → 0 ≡ rowBehind c p
+behind-other c p h e = let q : ltb 32 c ≡ false = F→eq _ (λ (z : T (ltb 32 c)). let l = leb→le 33 c z in omega arith) in rw (q, e) refl
+
+pub chain5 : (a b c d e : Bool) → ((((a || b) || c) || d) || e) ≡ (a || (b || (c || (d || (e || false)))))
+chain5 true b c d e = refl
+chain5 false true c d e = refl
+chain5 false false c d e = chain3 c d e

@@ -1,17 +1,19 @@
 -- Telling a print's tokens to a text of zeros leaves the print there.
 use mathlib.Core.Path.{_≡_, refl, sym, ap, _∙_}
 use mathlib.Core.List.{List, [], _∷_, _++_, append-assoc, append-nil}
-use mathlib.Core.Bool.{Bool, true, false, not, cond}
+use mathlib.Core.Bool.{Bool, true, false, not, _&&_, cond}
 use mathlib.Core.Logic.{_⊎_, inl, inr}
 use Prim.Native.Nat.{ℕ, zero, suc, _+_, _≤_, _<_}
-use lib.Dec.{T, ltb, leb→le, le→leb}
+use lib.Dec.{T, ltb, leb, leb→le, le→leb}
 use lib.ListN.{length, set, length-append}
 use native.Mathlib.Omega.{arith}
 use Rattle.grammar.proofs.Bools.{T→eq, F→eq}
-use Rattle.canon.specs.Text.{Bit, spelling, ends-line, blank-between, spaced}
+use Rattle.grammar.specs.Grammar.{one-of}
+use Rattle.canon.specs.Text.{Bit, sign, copy, spelling, ends-line, blank-between, spaced}
 use Rattle.sink.specs.declared.Sink.{Sink}
-use Rattle.sink.specs.Told.{Written, written, counted, put, fed, blank, newline, state, tell, telling, padded, capped, TellsPrints}
-use Rattle.sink.proofs.Feeds.{fed-none, fed-append}
+use Rattle.sink.specs.Few.{prefix-words, few, is-prefix, rowBehind}
+use Rattle.sink.specs.Told.{Written, written, counted, put, fed, blank, newline, empty, state, tell, telling, padded, capped, TellsPrints}
+use Rattle.sink.proofs.Feeds.{fed-none, fed-append, behind-prefix, behind-other}
 
 below : (n m : ℕ) → n < m → ltb n m ≡ true
 below n m h = T→eq _ (le→leb (suc n) m h)
@@ -64,30 +66,36 @@ length-one v b = length-append v (b ∷ [])
 abbrev holding : ℕ → List ℕ → Written
 holding n v = written (padded n v) (capped (length v))
 
-byte : (n : ℕ) (v : List ℕ) (b : ℕ) → n ≤ 65536 → put (holding n v) b ≡ holding n (v ++ (b ∷ []))
+byte : (n : ℕ) (v : List ℕ) (b : ℕ) → length v < 65536 → put (holding n v) b ≡ holding n (v ++ (b ∷ []))
 unfolding put
 byte n v b m = go (either (length v) n)
   where
     next : counted (capped (length v)) ≡ capped (length (v ++ (b ∷ [])))
     next = capped-more (length v) ∙ ap capped (sym (length-one v b))
 
+    here : capped (length v) ≡ length v
+    here = ap (λ (c : Bool). cond c (length v) 65536) (below (length v) 65536 m)
+
     go : (length v < n) ⊎ (n ≤ length v) → put (holding n v) b ≡ holding n (v ++ (b ∷ []))
     go (inl h) =
-        let q : ltb (capped (length v)) (length (padded n v)) ≡ true = below (capped (length v)) (length (padded n v)) (rw (padded-length n v, below (length v) 65536 (omega arith)) h) in
-        let a : capped (length v) ≡ length v = rw (below (length v) 65536 (omega arith)) refl in
-        rw q (ap (λ (k : ℕ). written (set (padded n v) k b) (counted (capped (length v)))) a ∙ ap (λ (l : List ℕ). written l (counted (capped (length v)))) (padded-in n v b h) ∙ ap (written (padded n (v ++ (b ∷ [])))) next)
+        let q : ltb (capped (length v)) (length (padded n v)) ≡ true = below (capped (length v)) (length (padded n v)) (rw (padded-length n v, here) h) in
+        rw q (ap (λ (k : ℕ). written (set (padded n v) k b) (counted (capped (length v)))) here ∙ ap (λ (l : List ℕ). written l (counted (capped (length v)))) (padded-in n v b h) ∙ ap (written (padded n (v ++ (b ∷ [])))) next)
     go (inr h) =
-        let q : ltb (capped (length v)) (length (padded n v)) ≡ false = not-below (capped (length v)) (length (padded n v)) (rw (padded-length n v) (over (either (length v) 65536))) in
+        let q : ltb (capped (length v)) (length (padded n v)) ≡ false = not-below (capped (length v)) (length (padded n v)) (rw (padded-length n v, here) h) in
         rw q (ap (λ (l : List ℕ). written l (counted (capped (length v)))) (padded-out n v b h) ∙ ap (written (padded n (v ++ (b ∷ [])))) next)
-      where
-        over : (length v < 65536) ⊎ (65536 ≤ length v) → n ≤ capped (length v)
-        over (inl k) = rw (below (length v) 65536 k) h
-        over (inr k) = rw (not-below (length v) 65536 k) m
 
-fed-holding : (n : ℕ) (v w : List ℕ) → n ≤ 65536 → fed (holding n v) w ≡ holding n (v ++ w)
+fed-holding : (n : ℕ) (v w : List ℕ) → length v + length w ≤ 65536 → fed (holding n v) w ≡ holding n (v ++ w)
 unfolding fed
 fed-holding n v [] m = ap (holding n) (sym (append-nil v))
-fed-holding n v (b ∷ w) m = ap (λ (x : Written). fed x w) (byte n v b m) ∙ fed-holding n (v ++ (b ∷ [])) w m ∙ ap (holding n) (append-assoc v (b ∷ []) w)
+fed-holding n v (b ∷ w) m =
+    let k = length-one v b in
+    ap (λ (x : Written). fed x w) (byte n v b (omega arith)) ∙ fed-holding n (v ++ (b ∷ [])) w (omega arith) ∙ ap (holding n) (append-assoc v (b ∷ []) w)
+
+-- the count doesn't look at the text
+fed-at : (x : Written) (w : List ℕ) (n : ℕ) → x .at ≡ capped n → fed x w .at ≡ capped (n + length w)
+unfolding fed put
+fed-at x [] n e = e ∙ ap capped {x = n} {y = n + 0} (omega arith)
+fed-at x (b ∷ w) n e = fed-at (put x b) w (n + 1) (ap counted e ∙ capped-more n) ∙ ap capped {x = n + 1 + length w} {y = n + suc (length w)} (omega arith)
 
 -- the bytes of tokens, a blank first where one is due
 bytes-of : Bool → List Bit → List ℕ
@@ -111,12 +119,50 @@ told-bytes t s (b ∷ bs) =
     let x = written t (s .at) in
     let l = ends-line b in
     let y = fed (fed (fed x (blank (s .gap))) (spelling b)) (newline l) in
-    told-bytes (y .text) (record { at = y .at; gap = not l }) bs
+    told-bytes (y .text) (record { at = y .at; gap = not l; row = rowBehind (s .row) (is-prefix b) }) bs
     ∙ sym (fed-append (fed (fed x (blank (s .gap))) (spelling b)) (newline l) (bytes-of (not l) bs))
     ∙ sym (fed-append (fed x (blank (s .gap))) (spelling b) (newline l ++ bytes-of (not l) bs))
     ∙ sym (fed-append x (blank (s .gap)) (spelling b ++ (newline l ++ bytes-of (not l) bs)))
 
-pub telling-prints : (n : ℕ) (bs : List Bit) → n ≤ 65536 → TellsPrints n bs
-telling-prints n bs m =
-    let e = told-bytes (padded n []) (record { at = 0; gap = false }) bs ∙ ap (fed (written (padded n []) 0)) (bytes-spaced bs) ∙ fed-holding n [] (spaced bs) m in
-    record { text = ap (λ (x : Written). x .text) e; at = ap (λ (x : Written). x .at) e }
+-- prefixes in a row behind tokens
+row-after : ℕ → List Bit → ℕ
+row-after c [] = c
+row-after c (b ∷ bs) = row-after (rowBehind c (is-prefix b)) bs
+
+told-row : (t : List ℕ) (s : Sink) (bs : List Bit) → telling (state t s) bs .sink .row ≡ row-after (s .row) bs
+unfolding telling tell row-after
+told-row t s [] = refl
+told-row t s (b ∷ bs) =
+    let l = ends-line b in
+    let y = fed (fed (fed (written t (s .at)) (blank (s .gap))) (spelling b)) (newline l) in
+    told-row (y .text) (record { at = y .at; gap = not l; row = rowBehind (s .row) (is-prefix b) }) bs
+
+stays : (bs : List Bit) → row-after 33 bs ≡ 33
+unfolding row-after
+stays [] = refl
+stays (b ∷ bs) = stays bs
+
+few-more : (c : ℕ) (bs : List Bit) → c ≤ 32 → ((k : ℕ) → k ≤ 32 → leb (row-after k bs) 32 ≡ few k bs) → (c < 32) ⊎ (32 ≤ c) → leb (row-after (c + 1) bs) 32 ≡ (ltb c 32 && few (suc c) bs)
+few-more c bs h ih (inl k) = let q : c + 1 ≡ suc c = omega arith in rw (below c 32 k, q) (ih (suc c) (omega arith))
+few-more c bs h ih (inr k) =
+    let q : c + 1 ≡ 33 = omega arith in
+    rw (not-below c 32 k) (ap (λ (n : ℕ). leb (row-after n bs) 32) q ∙ ap (λ (n : ℕ). leb n 32) (stays bs))
+
+few-step : (c : ℕ) (b : Bool) (bs : List Bit) → c ≤ 32 → ((k : ℕ) → k ≤ 32 → leb (row-after k bs) 32 ≡ few k bs) → leb (row-after (rowBehind c b) bs) 32 ≡ cond b (ltb c 32 && few (suc c) bs) (few 0 bs)
+few-step c true bs h ih = ap (λ (k : ℕ). leb (row-after k bs) 32) (sym (behind-prefix c (c + 1) true h refl refl)) ∙ few-more c bs h ih (either c 32)
+few-step c false bs h ih = ap (λ (k : ℕ). leb (row-after k bs) 32) (sym (behind-other c false h refl)) ∙ ih 0 (omega arith)
+
+few-row : (c : ℕ) (bs : List Bit) → c ≤ 32 → leb (row-after c bs) 32 ≡ few c bs
+unfolding row-after few
+few-row c [] h = T→eq _ (le→leb c 32 h)
+few-row c (copy t ∷ bs) h = few-step c false bs h (λ k l. few-row k bs l)
+few-row c (sign w ∷ bs) h = few-step c (one-of w prefix-words) bs h (λ k l. few-row k bs l)
+
+pub telling-prints : (n : ℕ) (bs : List Bit) → TellsPrints n bs
+telling-prints n bs =
+    let e = told-bytes (padded n []) empty bs ∙ ap (fed (written (padded n []) 0)) (bytes-spaced bs) in
+    record {
+      text = λ m. ap (λ (x : Written). x .text) (e ∙ fed-holding n [] (spaced bs) (omega arith));
+      at = ap (λ (x : Written). x .at) e ∙ fed-at (written (padded n []) 0) (spaced bs) 0 refl ∙ ap capped {x = 0 + length (spaced bs)} {y = length (spaced bs)} (omega arith);
+      row = ap (λ (k : ℕ). leb k 32) (told-row (padded n []) empty bs) ∙ few-row 0 bs (omega arith);
+    }

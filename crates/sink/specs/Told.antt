@@ -2,12 +2,13 @@
 use mathlib.Core.Path.{_≡_}
 use mathlib.Core.List.{List, [], _∷_, _++_}
 use mathlib.Core.Bool.{Bool, false, not, cond}
-use Prim.Native.Nat.{ℕ, zero, suc, _+_, _/_, _%_}
-use lib.Dec.{ltb}
+use Prim.Native.Nat.{ℕ, zero, suc, _+_, _/_, _%_, _≤_}
+use lib.Dec.{ltb, leb}
 use lib.ListN.{length, set}
 use Rattle.tokens.specs.Words.{twoSigns, oneSigns, keywords}
 use Rattle.canon.specs.Text.{Bit, sign, spelled, spelling, ends-line, spaced}
 use Rattle.sink.specs.declared.Sink.{Sink}
+use Rattle.sink.specs.Few.{few, is-prefix, rowBehind}
 
 pub record Written : Type 0 where
   pub text : List ℕ
@@ -45,15 +46,19 @@ pub record Told : Type 0 where
 abbrev pub state : List ℕ → Sink → Told
 state t x = record { text = t; sink = x }
 
--- a token of this text more
-unfoldable pub tell : Told → List ℕ → Bool → Told
-tell x t line =
-    let y = fed (fed (fed (written (x .text) (x .sink .at)) (blank (x .sink .gap))) t) (newline line) in
-    state (y .text) (record { at = y .at; gap = not line })
+-- nothing is written yet
+abbrev pub empty : Sink
+empty = record { at = 0; gap = false; row = 0 }
+
+-- a token more
+unfoldable pub tell : Told → Bit → Told
+tell x b =
+    let y = fed (fed (fed (written (x .text) (x .sink .at)) (blank (x .sink .gap))) (spelling b)) (newline (ends-line b)) in
+    state (y .text) (record { at = y .at; gap = not (ends-line b); row = rowBehind (x .sink .row) (is-prefix b) })
 
 unfoldable pub telling : Told → List Bit → Told
 telling x [] = x
-telling x (b ∷ bs) = telling (tell x (spelling b) (ends-line b)) bs
+telling x (b ∷ bs) = telling (tell x b) bs
 
 -- up to three words in one number: each 1 more than its word, 128 times it the next
 abbrev pub digit : ℕ → List Bit
@@ -62,6 +67,11 @@ digit (suc w) = sign w ∷ []
 
 abbrev pub said : ℕ → List Bit
 said n = digit (n % 128) ++ (digit (n / 128 % 128) ++ digit (n / 16384 % 128))
+
+-- the same, digit by digit
+unfoldable pub saying : ℕ → ℕ → List Bit
+saying zero n = []
+saying (suc k) n = digit (n % 128) ++ saying k (n / 128)
 
 -- the first n bytes of a list, zeros where it has ended; its length, as far as it is counted
 unfoldable pub padded : ℕ → List ℕ → List ℕ
@@ -72,7 +82,9 @@ padded (suc n) (b ∷ w) = b ∷ padded n w
 abbrev pub capped : ℕ → ℕ
 capped n = cond (ltb n 65536) n 65536
 
--- Telling a print's tokens to a text of zeros leaves the print there, and its length: `telling-prints` (proofs/Prints.antt).
+-- Telling a print's tokens to a text of zeros leaves the print there, if all of it is counted; its length, and whether few prefixes stand in a row:
+-- `telling-prints` (proofs/Prints.antt).
 pub record TellsPrints (n : ℕ) (bs : List Bit) : Type 0 where
-  pub text : telling (state (padded n []) (record { at = 0; gap = false })) bs .text ≡ padded n (spaced bs)
-  pub at : telling (state (padded n []) (record { at = 0; gap = false })) bs .sink .at ≡ capped (length (spaced bs))
+  pub text : length (spaced bs) ≤ 65536 → telling (state (padded n []) empty) bs .text ≡ padded n (spaced bs)
+  pub at : telling (state (padded n []) empty) bs .sink .at ≡ capped (length (spaced bs))
+  pub row : leb (telling (state (padded n []) empty) bs .sink .row) 32 ≡ few 0 bs

@@ -1,28 +1,39 @@
 // The text of a print, token by token, in a buffer.
 ghost use mathlib.Core.Path.{_≡_};
-ghost use mathlib.Core.Bool.{false};
+ghost use mathlib.Core.List.{_++_};
 ghost use mathlib.Core.Logic.{_⊎_};
 ghost use Prim.Native.Nat.{_≤_};
 ghost use lib.Seq.{slice};
 ghost use Rattle.tokens.specs.Words.{twoSigns, oneSigns, keywords};
-ghost use Rattle.canon.specs.Text.{spelled, ends-line, sign};
-ghost use Rattle.canon.specs.Events.{opening, closing};
-ghost use Rattle.sink.specs.Told.{written, counted, put, fed, wordText, blank, state, tell, telling, digit, said};
+ghost use Rattle.grammar.specs.Grammar.{one-of};
+ghost use Rattle.canon.specs.Text.{spelled, ends-line, sign, copy};
+ghost use Rattle.canon.specs.Events.{opening};
+ghost use Rattle.sink.specs.Few.{prefix-words, rowBehind};
+ghost use Rattle.sink.specs.Told.{written, counted, put, fed, wordText, blank, empty, state, tell, telling, digit, said};
 use tokens::word;
 
-// How many bytes were written, as far as they count, and whether a blank comes before the next token.
+// How many bytes were written, as far as they count; whether a blank comes before the next token; how many prefix words stand in a row, and one more than may
+// once there were too many.
 pub struct Sink {
     pub at: usize,
     pub gap: bool,
+    pub row: u64,
 }
+
+// "At most 32 in a row of prefix `!`, `-`, `return`, `accept`, `reject`."
+pub const MOST_PREFIXES: u64 = 32;
 
 // More bytes than a print may have.
 const MANY: usize = 65536;
 
 pub fn new() -> Sink
-    ensures { λ r. ⌜ r ≡ record { at = 0; gap = false } ⌝ }
+    ensures { λ r. ⌜ r ≡ empty ⌝ }
 {
-    Sink { at: 0, gap: false }
+    Sink {
+        at: 0,
+        gap: false,
+        row: 0,
+    }
 }
 
 // One more byte, as far as they are counted.
@@ -82,12 +93,37 @@ fn put_blank(text: &mut [u8], sink: Sink) -> usize
     sink.at
 }
 
+// "!", "-", "return", "accept", "reject"
+fn is_prefix(w: u64) -> bool
+    ensures { λ r. ⌜ r ≡ one-of w prefix-words ⌝ }
+{
+    (w == word::BANG)
+        | (w == word::HYPHEN)
+        | (w == word::RETURN)
+        | (w == word::ACCEPT)
+        | (w == word::REJECT)
+}
+
+// In a row behind one more token.
+fn row_behind(row: u64, prefix: bool) -> u64
+    ensures { λ r. ⌜ r ≡ rowBehind row prefix ⌝ }
+{
+    if MOST_PREFIXES < row {
+        return row;
+    }
+    if prefix {
+        return row + 1;
+    }
+    0
+}
+
 pub fn copy(text: &mut [u8], sink: Sink, s: &[u8], start: usize, end: usize) -> Sink
-    ensures { λ r. ⌜ state (now (text .exit)) r ≡ tell (state (now (text .entry)) sink) (slice start end (now (s .entry))) false ⌝ }
+    ensures { λ r. ⌜ state (now (text .exit)) r ≡ tell (state (now (text .entry)) sink) (copy (slice start end (now (s .entry)))) ⌝ }
 {
     let from = put_blank(text, sink);
     let at = put_slice(text, from, s, start, end);
-    Sink { at, gap: true }
+    let row = row_behind(sink.row, false);
+    Sink { at, gap: true, row }
 }
 
 fn put_two_signs(text: &mut [u8], at: usize, w: u64) -> usize
@@ -194,23 +230,28 @@ fn ends_line(w: u64) -> bool
 
 // "But a newline alone after `;`, `{` and `}`."
 pub fn sign(text: &mut [u8], sink: Sink, w: u64) -> Sink
-    ensures { λ r. ⌜ state (now (text .exit)) r ≡ tell (state (now (text .entry)) sink) (wordText w) (ends-line (sign w)) ⌝ }
+    ensures { λ r. ⌜ state (now (text .exit)) r ≡ tell (state (now (text .entry)) sink) (sign w) ⌝ }
 {
     let from = put_blank(text, sink);
     let at = put_word(text, from, w);
+    let row = row_behind(sink.row, is_prefix(w));
     if ends_line(w) {
         return Sink {
             at: put(text, at, b'\n'),
             gap: false,
+            row,
         };
     }
-    Sink { at, gap: true }
+    Sink { at, gap: true, row }
 }
 
 // Up to three words in one number, each 1 more than its word, the first in the lowest digit.
 pub const DIGIT: u64 = 128;
 
 pub const SQUARE: u64 = 16384;
+
+// More than any number of three words.
+pub const WORDS: u64 = 2097152;
 
 fn word_of(text: &mut [u8], sink: Sink, d: u64) -> Sink
     ensures { λ r. ⌜ state (now (text .exit)) r ≡ telling (state (now (text .entry)) sink) (digit d) ⌝ }
@@ -221,28 +262,22 @@ fn word_of(text: &mut [u8], sink: Sink, d: u64) -> Sink
     sign(text, sink, d - 1)
 }
 
-pub fn words(text: &mut [u8], sink: Sink, packed: u64) -> Sink
-    ensures { λ r. ⌜ state (now (text .exit)) r ≡ telling (state (now (text .entry)) sink) (said packed) ⌝ }
+// `(` behind three words.
+fn round(pair: bool) -> u64
+    ensures { λ r. ⌜ (digit r ≡ opening pair) × (r ≤ 127) ⌝ }
 {
-    let first = word_of(text, sink, packed % DIGIT);
-    let second = word_of(text, first, packed / DIGIT % DIGIT);
-    word_of(text, second, packed / SQUARE % DIGIT)
+    if pair { word::ROUND_LEFT + 1 } else { 0 }
 }
 
-pub fn opened(text: &mut [u8], sink: Sink, pair: bool) -> Sink
-    ensures { λ r. ⌜ state (now (text .exit)) r ≡ telling (state (now (text .entry)) sink) (opening pair) ⌝ }
+// The words in a number, and `(` behind them. (The one place where a word is written: so it is compiled into its caller's loop.)
+pub fn words(text: &mut [u8], sink: Sink, packed: u64, pair: bool) -> Sink
+    ensures { λ r. ⌜ state (now (text .exit)) r ≡ telling (state (now (text .entry)) sink) (said packed ++ opening pair) ⌝ }
 {
-    if pair {
-        return sign(text, sink, word::ROUND_LEFT);
+    let mut to = sink;
+    let mut left = packed % WORDS + WORDS * round(pair);
+    while 0 < left {
+        to = word_of(text, to, left % DIGIT);
+        left = left / DIGIT;
     }
-    sink
-}
-
-pub fn closed(text: &mut [u8], sink: Sink, pair: bool) -> Sink
-    ensures { λ r. ⌜ state (now (text .exit)) r ≡ telling (state (now (text .entry)) sink) (closing pair) ⌝ }
-{
-    if pair {
-        return sign(text, sink, word::ROUND_RIGHT);
-    }
-    sink
+    to
 }

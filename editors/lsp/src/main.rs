@@ -6,6 +6,7 @@ mod answers;
 mod colours;
 mod diagnostics;
 mod folds;
+mod formatting;
 mod hover;
 mod pieces;
 mod places;

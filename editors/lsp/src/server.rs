@@ -9,6 +9,7 @@ use crate::{
     colours::colours,
     diagnostics::{AT_ONCE, diagnostics},
     folds::folds,
+    formatting::formatting,
     hover::hover,
     pieces::CLASSES,
     places::selections,
@@ -132,6 +133,7 @@ impl Server {
             "documentSymbolProvider": true,
             "selectionRangeProvider": true,
             "hoverProvider": true,
+            "documentFormattingProvider": true,
             "semanticTokensProvider": { "legend": { "tokenTypes": CLASSES, "tokenModifiers": [] }, "full": true },
         })
     }
@@ -156,6 +158,7 @@ impl Server {
                 Ok(hover(text, text.offset(position)))
             }
             "textDocument/semanticTokens/full" => text().map(colours),
+            "textDocument/formatting" => text().map(formatting),
             _ => Err(answers::unknown(method)),
         }
     }

@@ -1,11 +1,12 @@
 //! Our own code behind the protocol: the compiled Rattle library, called as C calls it.
 
 use lekhyundo::{
-    MOST_RANGES, MOST_ROWS,
+    MOST_BYTES, MOST_RANGES, MOST_ROWS,
     sys::{self, Entry, Token},
 };
 use protocol::{
-    Case, Constant, NotThere, Refusal, WIDTH, serve, time, write_bytes, write_constant, write_no_room, write_pair, write_refusal, write_row,
+    Case, Constant, NotThere, Printed, Refusal, WIDTH, serve, time, write_bytes, write_constant, write_no_room, write_pair, write_printed,
+    write_refusal, write_row,
 };
 
 mod list;
@@ -333,6 +334,70 @@ fn with_room(source: &[u8]) -> Vec<u8> {
     text
 }
 
+/// The numbers of the plan for each row.
+const PLAN: usize = 4;
+
+fn printed(source: &[u8], table: &mut [u64], plan: &mut [u64], text: &mut [u8]) -> [u64; 5] {
+    let mut answer = [u64::MAX; 5];
+    // SAFETY: as above.
+    unsafe {
+        sys::lekhyundo_print(
+            source.as_ptr(), source.len(), table.as_mut_ptr(), table.len(), plan.as_mut_ptr(), plan.len(), text.as_mut_ptr(), text.len(),
+            answer.as_mut_ptr(), answer.len(),
+        )
+    };
+    answer
+}
+
+/// C-20: the print of a source, in tables and bytes that are not zeros before, with numbers behind the last whole row of both. What is left of all three
+/// must be zeros, but for the rows of an accepted source, which are (a)'s where it has no test.
+fn print(case: &Case<'_>, out: &mut String) {
+    let length = case.source.len();
+    let most = length * 3 / 2 + 2;
+    let mut table = vec![0xa5u64; most * WIDTH + length % WIDTH];
+    let mut plan = vec![0xa5u64; most * PLAN + length % PLAN];
+    let mut text = vec![0xa5u8; case.room.min(MOST_BYTES as u64 + 1) as usize];
+    let [number, start, end, count, tests] = printed(case.source, &mut table, &mut plan, &mut text);
+    let bytes = if number == 0 { count as usize } else { 0 };
+    let found = match number {
+        0 => Ok(Printed { text: String::from_utf8_lossy(&text[..bytes]).into_owned(), tests }),
+        _ => Err(Refusal { number, start, end }),
+    };
+    match number {
+        10 => write_no_room(out, count),
+        _ => write_printed(out, found, case.room),
+    }
+    let place_fits = match number {
+        0 => (start, end) == (0, length as u64),
+        10 => (start, end, tests) == (0, 0, 0),
+        _ => (count, tests) == (0, 0),
+    };
+    let mut rows = vec![0; table.len()];
+    if number == 0 && tests == 0 {
+        read(sys::lekhyundo_tree, case.source, &mut rows);
+    }
+    if !place_fits || tests == 0 && table != rows || plan.iter().any(|&number| number != 0) || text[bytes..].iter().any(|&byte| byte != 0) {
+        out.push_str(&format!("number {number} has place {start} {end}, counts {count} {tests}; or what is left in a table is something else\n"));
+    }
+    if number == 0 && !prints_back(case.source, &table, &text[..bytes]) {
+        out.push_str("the print has another tree or another print\n");
+    }
+}
+
+/// Whether a print is its own print and has the rows of its source but for their places, and the same text at each name and literal.
+fn prints_back(source: &[u8], rows: &[u64], print: &[u8]) -> bool {
+    let (mut table, mut text) = (vec![0; rows.len()], vec![0; print.len()]);
+    let answer = printed(print, &mut table, &mut vec![0; rows.len()], &mut text);
+    let leaf = |text: &[u8], row: &[u64]| match row[0] {
+        1 | 10..=17 | 47 => text[row[1] as usize..row[2] as usize].to_vec(),
+        _ => Vec::new(),
+    };
+    let same = |[ours, again]: [&[u64]; 2]| {
+        (ours[0], &ours[3..], leaf(source, ours)) == (again[0], &again[3..], leaf(print, again))
+    };
+    answer[0] == 0 && text == print && rows.chunks_exact(WIDTH).zip(table.chunks_exact(WIDTH)).all(|(ours, again)| same([ours, again]))
+}
+
 /// Into a list of exactly the tokens that there are.
 fn time_tokens(arguments: &[String]) -> std::io::Result<()> {
     let list = std::cell::RefCell::new(Vec::new());
@@ -374,11 +439,31 @@ fn time_salvages(arguments: &[String]) -> std::io::Result<()> {
     })
 }
 
+/// Into tables of exactly the rows that there are, and a text with room for any print; what is counted are the print's bytes.
+fn time_prints(arguments: &[String]) -> std::io::Result<()> {
+    let tables = std::cell::RefCell::new((Vec::new(), Vec::new(), vec![0; MOST_BYTES]));
+    let made = |source: &[u8]| {
+        let (table, plan, text) = &mut *tables.borrow_mut();
+        printed(source, table, plan, text)[3]
+    };
+    let count = |source: &[u8]| {
+        let rows = read(sys::lekhyundo_tree, source, &mut [])[3] as usize;
+        let (table, plan, _) = &mut *tables.borrow_mut();
+        table.resize(rows * WIDTH, 0);
+        plan.resize(rows * PLAN, 0);
+        printed(source, table, plan, &mut vec![0; MOST_BYTES])[3]
+    };
+    time(arguments, count, |source| {
+        made(source);
+    })
+}
+
 fn main() -> std::io::Result<()> {
     let arguments: Vec<String> = std::env::args().skip(1).collect();
     match arguments.first().map(String::as_str) {
         Some("tokens") => time_tokens(&arguments[1..]),
         Some("trees") => time_trees(&arguments[1..]),
+        Some("prints") => time_prints(&arguments[1..]),
         Some("salvages") => time_salvages(&arguments[1..]),
         _ => serve(|case, out| match case.entry {
             b'a' | b'b' => rows(case, out),
@@ -386,6 +471,7 @@ fn main() -> std::io::Result<()> {
             b'f' => float(case, out),
             b'k' => constant(case, out),
             b'n' => node(case, out),
+            b'p' => print(case, out),
             b's' => salvage(case, out),
             b't' => check(case, out),
             b'w' => write(case, out),

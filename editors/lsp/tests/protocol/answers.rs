@@ -244,3 +244,13 @@ pub fn as_check_says(text: &str, diagnostics: &[Value]) {
 fn words_as_check_says() {
     as_check_says(BROKEN, &Client::with(json!([])).open(FILE, BROKEN));
 }
+
+#[test]
+fn formatting() {
+    let edits = |text: &str| opened(text).about("textDocument/formatting", FILE);
+    let print = "fn f ( ) {\na + b * c }\n";
+    assert_eq!(edits("fn f(){ (a) +\n  (b*c)}"), json!([{ "range": range((0, 0), (1, 8)), "newText": print }]));
+    assert_eq!(edits(print), json!([]));
+    assert_eq!(edits("fn f( {}"), json!([]));
+    assert_eq!(edits("// für\n"), json!([]));
+}

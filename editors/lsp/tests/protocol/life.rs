@@ -90,7 +90,6 @@ fn odd_messages() {
     let mut client = Client::with(json!([]));
     assert_eq!(client.error("textDocument/rename", json!({})), UNKNOWN);
     assert_eq!(client.error("$/none", json!({})), UNKNOWN);
-    assert_eq!(client.error("textDocument/formatting", json!({})), UNKNOWN);
     client.tell("$/cancelRequest", json!({ "id": 7 }));
     client.tell("none", json!([]));
     client.send(&json!({ "jsonrpc": "2.0", "id": 9, "result": null }));

@@ -1,0 +1,5 @@
+pub mod Choices
+pub mod Only
+pub mod ReadBack
+pub mod Exact
+pub mod Examples

@@ -1,0 +1,11 @@
+pub mod Tested
+pub mod Counted
+pub mod Balanced
+pub mod Quotes
+pub mod Copied
+pub mod Two
+pub mod Singles
+pub mod Heads
+pub mod Limits
+pub mod Pairs
+pub mod Examples

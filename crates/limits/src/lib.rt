@@ -1,0 +1,1 @@
+// Which prints pass no limit; no code.

@@ -1,0 +1,4 @@
+pub mod Stack
+pub mod Turns
+pub mod Planted
+pub mod Said
