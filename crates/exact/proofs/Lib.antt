@@ -3,3 +3,4 @@ pub mod Only
 pub mod ReadBack
 pub mod Exact
 pub mod Examples
+pub mod Worked
