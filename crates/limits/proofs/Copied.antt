@@ -29,7 +29,8 @@ use Rattle.respell.proofs.Looks.{look-lies}
 use Rattle.respell.proofs.FStrings.{roto-hole, roto-holes, text-moves, closes}
 use Rattle.roundtrip.proofs.Lasts.{covered, within-one}
 use Rattle.roundtrip.proofs.Meets.{same-leaves, copied-text, string-last}
-use Rattle.limits.specs.Within.{openers, closers, prefix-words, opening, closing, prefixing, Tally, behind, allowed, quoted, past, within, bounded}
+use Rattle.sink.specs.Few.{prefix-words}
+use Rattle.limits.specs.Within.{openers, closers, opening, closing, prefixing, Tally, behind, allowed, quoted, past, within, bounded}
 use Rattle.limits.proofs.Balanced.{deeper, depth, balanced}
 use Rattle.limits.proofs.Quotes.{quote-text}
 

@@ -24,7 +24,8 @@ use Rattle.roundtrip.proofs.Signs.{tokens-sure}
 use Rattle.roundtrip.proofs.Lasts.{all-worded, last-ends}
 use Rattle.roundtrip.proofs.Meets.{spelt, spells-last}
 use Rattle.roundtrip.proofs.ReadsBack.{paths}
-use Rattle.limits.specs.Within.{nothing-yet, within, few, low}
+use Rattle.sink.specs.Few.{few}
+use Rattle.limits.specs.Within.{nothing-yet, within, low}
 use Rattle.limits.proofs.Counted.{bounded-reads}
 use Rattle.limits.proofs.Copied.{spells-bounded}
 use Rattle.limits.proofs.Two.{two}

@@ -7,7 +7,8 @@ use lib.ListN.{length}
 use Rattle.grammar.specs.Limits.{limit}
 use Rattle.grammar.proofs.Bools.{and-l, and-r, both}
 use Rattle.canon.specs.Text.{Bit, sign, copy}
-use Rattle.limits.specs.Within.{opening, closing, prefixing, Tally, behind, allowed, quoted, within, few, low}
+use Rattle.sink.specs.Few.{few}
+use Rattle.limits.specs.Within.{opening, closing, prefixing, Tally, behind, allowed, quoted, within, low}
 
 abbrev pub tally : ℕ → ℕ → Tally
 tally b c = record { brackets = b; prefixes = c }

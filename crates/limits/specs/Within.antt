@@ -9,10 +9,11 @@ use lib.Dec.{eqb, ltb, leb}
 use lib.ListN.{length}
 use Rattle.chars.specs.Chars.{byteAt}
 use Rattle.texts.specs.Signs.{quote}
-use Rattle.grammar.specs.Words.{open-paren, close-paren, open-bracket, close-bracket, open-brace, close-brace, '!', '-', return-words}
+use Rattle.grammar.specs.Words.{open-paren, close-paren, open-bracket, close-bracket, open-brace, close-brace}
 use Rattle.grammar.specs.Grammar.{Token, one-of}
 use Rattle.grammar.specs.Limits.{limit}
 use Rattle.canon.specs.Text.{Bit, sign, copy}
+use Rattle.sink.specs.Few.{prefix-words}
 
 -- Words that open and close a bracket; prefixes (`-` and a type's `!` among them, whatever they are).
 abbrev pub openers : List ℕ
@@ -20,9 +21,6 @@ openers = open-paren ∷ open-bracket ∷ open-brace ∷ []
 
 abbrev pub closers : List ℕ
 closers = close-paren ∷ close-bracket ∷ close-brace ∷ []
-
-abbrev pub prefix-words : List ℕ
-prefix-words = '!' ∷ '-' ∷ return-words
 
 abbrev pub opening : ℕ → Bool
 opening w = one-of w openers
@@ -67,12 +65,7 @@ within o [] = true
 within o (sign w ∷ bs) = allowed w o && within (behind w o) bs
 within o (copy t ∷ bs) = cond (quoted t) (leb (o .brackets + length t) limit && within (past o) bs) (within (past o) bs)
 
--- The same as two tests, each with its own count: prefixes in a row, open brackets.
-unfoldable pub few : ℕ → List Bit → Bool
-few c [] = true
-few c (sign w ∷ bs) = cond (prefixing w) (ltb c limit && few (suc c) bs) (few 0 bs)
-few c (copy t ∷ bs) = few 0 bs
-
+-- The same as two tests, each with its own count: prefixes in a row (`few`, sink/specs/Few.antt), and open brackets.
 unfoldable pub low : ℕ → List Bit → Bool
 low b [] = true
 low b (sign w ∷ bs) = cond (opening w) (ltb b limit && low (suc b) bs) (cond (closing w) (low (pred b) bs) (low b bs))
