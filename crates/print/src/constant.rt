@@ -1,5 +1,5 @@
 // Constants as lines of text: the answer to one, and all of a source.
-use super::{head, number};
+use super::{head, number, say};
 use chars::{Answer, refusal};
 use constants::Constant;
 use libc::STDOUT_FILENO;
@@ -14,7 +14,7 @@ fn whole(ty: u64, a: u64) {
         return;
     };
     if wholes::negative(t, a) {
-        io::write_all(STDOUT_FILENO, b"-");
+        say(b"-");
     }
     io::print_decimal(STDOUT_FILENO, wholes::magnitude(t, a));
 }
@@ -24,24 +24,24 @@ fn value_line(ty: u64, v: Value) {
     let bits = machine::bits_of(ty, v);
     match v {
         Value::Whole(a) => {
-            io::write_all(STDOUT_FILENO, b"accepted integer ");
+            say(b"accepted integer ");
             whole(ty, a);
         }
         Value::Float(_) => {
-            io::write_all(STDOUT_FILENO, b"accepted float ");
+            say(b"accepted float ");
             float_bits(bits);
         }
         Value::Truth(_) => {
-            io::write_all(STDOUT_FILENO, b"accepted bool ");
+            say(b"accepted bool ");
             io::print_decimal(STDOUT_FILENO, bits);
         }
     }
-    io::write_all(STDOUT_FILENO, b"\n");
+    say(b"\n");
 }
 
 fn float_bits(bits: u64) {
     if bits == machine::NAN {
-        io::write_all(STDOUT_FILENO, b"nan");
+        say(b"nan");
     } else {
         io::print_decimal(STDOUT_FILENO, bits);
     }
@@ -100,10 +100,10 @@ pub fn rows_before(row: usize, many: u64) -> usize {
 // One byte, and a blank for a byte that isn't shown.
 fn byte(b: u8) {
     if b < 33 {
-        io::write_all(STDOUT_FILENO, b" ");
+        say(b" ");
     } else {
         let one = [b; 1];
-        io::write_all(STDOUT_FILENO, &one);
+        say(&one);
     }
 }
 
@@ -125,58 +125,24 @@ fn name_and_type(s: &[u8], table: &[u64], row: usize) {
     let ty = rows_before(expr, cell(table, expr, SIZE));
     let name = rows_before(ty, cell(table, ty, SIZE));
     row_text(s, table, name);
-    io::write_all(STDOUT_FILENO, b" ");
+    say(b" ");
     row_text(s, table, ty);
-    io::write_all(STDOUT_FILENO, b" ");
+    say(b" ");
 }
 
 // No source has as many bytes.
 const MOST_BYTES: usize = 65536;
 
-// A line and a column in it, from 1.
-#[derive(Drop)]
-struct Spot {
-    line: u64,
-    column: u64,
-}
-
-// Where a place is.
-fn spot_of(s: &[u8], at: usize) -> Spot {
-    let mut line: u64 = 1;
-    let mut column: u64 = 1;
-    let mut i = 0;
-    while i < MOST_BYTES {
-        if at <= i {
-            return Spot { line, column };
-        }
-        i += 1;
-        if newline(s, i - 1) {
-            line += 1;
-            column = 1;
-            continue;
-        }
-        column += 1;
-    }
-    Spot { line, column }
-}
-
-fn newline(s: &[u8], i: usize) -> bool {
-    if i < s.len() {
-        return s[i] == b'\n';
-    }
-    false
-}
-
 // `refused NUMBER at line LINE, column COLUMN`.
 fn refusal_line(s: &[u8], a: Answer) {
-    io::write_all(STDOUT_FILENO, b"refused");
+    say(b"refused");
     number(a.number);
-    let spot = spot_of(s, a.start);
-    io::write_all(STDOUT_FILENO, b" at line");
-    number(spot.line);
-    io::write_all(STDOUT_FILENO, b", column");
-    number(spot.column);
-    io::write_all(STDOUT_FILENO, b"\n");
+    let spot = lines::spot_of(s, a.start);
+    say(b" at line");
+    number(spot.line as u64);
+    say(b", column");
+    number(spot.column as u64);
+    say(b"\n");
 }
 
 // The bits of an f64: its sign's, the exponent's field, and 13 hex digits below.
@@ -191,12 +157,12 @@ const BIAS: u64 = 1023;
 // The power of two of a field, which is one more than it says where the field is 0.
 fn exponent(field: u64) {
     if field == 0 {
-        io::write_all(STDOUT_FILENO, b"p-1022");
+        say(b"p-1022");
         return;
     }
-    io::write_all(STDOUT_FILENO, b"p");
+    say(b"p");
     if field < BIAS {
-        io::write_all(STDOUT_FILENO, b"-");
+        say(b"-");
         io::print_decimal(STDOUT_FILENO, BIAS - field);
     } else {
         io::print_decimal(STDOUT_FILENO, field - BIAS);
@@ -207,17 +173,17 @@ fn exponent(field: u64) {
 fn amount(bits: u64) {
     let field = bits / UNIT;
     if bits == 0 {
-        io::write_all(STDOUT_FILENO, b"0");
+        say(b"0");
         return;
     }
     if INFINITE <= field {
-        io::write_all(STDOUT_FILENO, b"inf");
+        say(b"inf");
         return;
     }
     if field == 0 {
-        io::write_all(STDOUT_FILENO, b"0x0.");
+        say(b"0x0.");
     } else {
-        io::write_all(STDOUT_FILENO, b"0x1.");
+        say(b"0x1.");
     }
     io::print_hex(STDOUT_FILENO, bits % UNIT, 13);
     exponent(field);
@@ -226,11 +192,11 @@ fn amount(bits: u64) {
 // A float exactly: hex digits and a power of two, as C's strtod reads them.
 fn float_text(bits: u64) {
     if bits == machine::NAN {
-        io::write_all(STDOUT_FILENO, b"nan");
+        say(b"nan");
         return;
     }
     if SIGN <= bits {
-        io::write_all(STDOUT_FILENO, b"-");
+        say(b"-");
     }
     amount(bits % SIGN);
 }
@@ -242,13 +208,13 @@ fn value_text(ty: u64, v: Value) {
         Value::Float(_) => float_text(machine::bits_of(ty, v)),
         Value::Truth(b) => {
             if b {
-                io::write_all(STDOUT_FILENO, b"true");
+                say(b"true");
             } else {
-                io::write_all(STDOUT_FILENO, b"false");
+                say(b"false");
             }
         }
     }
-    io::write_all(STDOUT_FILENO, b"\n");
+    say(b"\n");
 }
 
 // How a constant was answered.

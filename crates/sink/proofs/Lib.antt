@@ -1,3 +1,4 @@
 pub mod Spelled
 pub mod Feeds
+pub mod Depths
 pub mod Prints

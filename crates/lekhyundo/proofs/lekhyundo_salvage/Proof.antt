@@ -1,5 +1,4 @@
 use mathlib.Core.Path.{refl}
-use Rattle.salvage.specs.Steps.{answer_of}
 use Rattle.lekhyundo.specs.Numbers.{salvaged_numbers}
 use Rattle.lekhyundo.proofs.Stores.{stored5}
 use borrow.Author.Rules.{rules}
@@ -43,8 +42,7 @@ same-length-4 c = search rules
 returns : tie.Need-returns
 unfolding salvaged_numbers
 returns c = record {
-  answer = answer_of c.before.before.before.before.before.before.before.before.before.before.before.before.before.before.before.before.before.before.before.before.before.before.before.before.before.before.salvage.result;
-  dropped = c.before.before.before.before.before.before.before.before.before.before.before.before.before.before.before.before.before.before.before.before.before.before.before.before.before.before.salvage.result.ranges;
+  answer = c.before.before.before.before.before.before.before.before.before.before.before.before.before.before.before.before.before.before.before.before.before.before.before.before.before.before.salvage.result;
   permitted = c.before.before.before.before.before.before.before.before.before.before.before.before.before.before.before.before.before.before.before.before.before.before.before.before.before.before.salvage.ensures;
   numbers =
       stored5 c.before.before.before.before.before.before.before.before.before.before.before.before.before.before.before.before.before.before.before.before.before.before.before.before.before.before.salvage.result.number c.before.before.before.before.before.before.before.before.before.before.before.before.before.before.before.before.before.before.before.before.before.before.before.before.before.before.salvage.result.start c.before.before.before.before.before.before.before.before.before.before.before.before.before.before.before.before.before.before.before.before.before.before.before.before.before.before.salvage.result.end c.before.before.before.before.before.before.before.before.before.before.before.before.before.before.before.before.before.before.before.before.before.before.before.before.before.before.salvage.result.count c.before.before.before.before.before.before.before.before.before.before.before.before.before.before.before.before.before.before.before.before.before.before.before.before.before.before.before.before.before.before.before.before.before.before.args.answer.now

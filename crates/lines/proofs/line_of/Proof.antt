@@ -1,0 +1,54 @@
+use Prim.Native.Nat.{◌-◌, ◌≤◌}
+use lib.ListN.{length}
+use borrow.Author.Rules.{rules}
+use Rattle.lines.proofs.line_of.Statement.{statement}
+use Rattle.lines.proofs.line_of.Tie as tie
+
+abbrev invariant-loop : tie.invariant-loop
+invariant-loop t number left₀ from₀ i₀ left from i = i ≤ length t
+
+abbrev decreases-loop : tie.decreases-loop
+decreases-loop t number left₀ from₀ i₀ left from i = length t - i
+
+loop-holds : tie.Need-loop-init invariant-loop decreases-loop
+loop-holds c = search rules
+
+shared-slice-read-if1 : tie.Need-shared-slice-read-if1 invariant-loop decreases-loop
+shared-slice-read-if1 c = search rules
+
+returns : tie.Need-returns invariant-loop decreases-loop
+returns c = search rules
+
+sub-left : tie.Need-overflow-sub-left invariant-loop decreases-loop
+sub-left c = search rules
+
+add-from : tie.Need-overflow-add-from invariant-loop decreases-loop
+add-from c = search rules
+
+add-i : tie.Need-overflow-add-i invariant-loop decreases-loop
+add-i c = search rules
+
+loop-less : tie.Need-loop-smaller invariant-loop decreases-loop
+loop-less c = search rules
+
+loop-again : tie.Need-loop-preserved invariant-loop decreases-loop
+loop-again c = search rules
+
+returns-2 : tie.Need-returns-2 invariant-loop decreases-loop
+returns-2 c = search rules
+
+pub line-of-spec : {M : Type 1} → statement M
+line-of-spec =
+    tie.close
+    (tie.spec
+    invariant-loop
+    decreases-loop
+    loop-holds
+    shared-slice-read-if1
+    returns
+    sub-left
+    add-from
+    add-i
+    loop-less
+    loop-again
+    returns-2)

@@ -1,0 +1,15 @@
+pub mod Trees
+pub mod Walk
+pub mod Steps
+pub mod Parens
+pub mod Told
+pub mod Lighter
+pub mod Written
+pub mod Laid
+pub mod Paced
+pub mod Sanity
+pub mod Worded
+pub mod Ended
+pub mod Texts
+pub mod Needed
+pub mod Examples

@@ -1,0 +1,6 @@
+pub mod Lacks
+pub mod Needed
+pub mod Weights
+pub mod Lighter
+pub mod Sane
+pub mod Laid
