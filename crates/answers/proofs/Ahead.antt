@@ -33,13 +33,12 @@ use Rattle.texts.specs.declared.Part.TheVariants.{Before, Ends, None}
 use Rattle.texts.specs.Parts.{part_at}
 use Rattle.texts.specs.Texts.{halved, text_of}
 use Rattle.texts.proofs.Parts.{Parted, parted_before, parted_ends, parted_none, part_lies}
-use Rattle.grammar.specs.Words.{words}
+use Rattle.grammar.specs.Words.{text_then_hole, last_text}
 use Rattle.grammar.specs.Rows.{token_nodes}
 use Rattle.grammar.specs.Grammar.{found, one_of}
 use Rattle.grammar.specs.Grammar as grammar
 use Rattle.grammar.proofs.Bools.{and_l, and_r}
 use Rattle.answers.specs.Source.{source, look_of, look_after, text_token, piece_of}
-open words use {text-then-hole, last-text}
 
 pub true_T : {b : Bool} → b ≡ true → T b
 true_T e = subst T (sym e) tt
@@ -383,21 +382,21 @@ module _ (s : List ℕ) where
       go (Refused r) (steps_wrong c) q = after (eqb r.number 11) (eqb r.number 5) r (λ t. let z : ◌≡◌ {A = ℕ} 4 5 = sym c ∙ eqb→eq r.number 5 t in absurd (omega (arith, z))) q
 
   -- a piece that has a row has a byte
-  no_text_row : (i e : ℕ) → e ≡ i → token_nodes (text_token text-then-hole i e (text_of (slice i e s))) ≡ 0
+  no_text_row : (i e : ℕ) → e ≡ i → token_nodes (text_token text_then_hole i e (text_of (slice i e s))) ≡ 0
   unfolding text_of codes_from halved encode
-  no_text_row i e q = ap (λ (t : List ℕ). token_nodes (text_token text-then-hole i e (text_of t))) (ap (λ (n : ℕ). slice i n s) q ∙ slice_empty i s)
+  no_text_row i e q = ap (λ (t : List ℕ). token_nodes (text_token text_then_hole i e (text_of t))) (ap (λ (n : ℕ). slice i n s) q ∙ slice_empty i s)
 
   pub pieces_take : (x : grammar.Token) (i j : ℕ) → (source s).piece i ≡ found x j → ahead j + token_nodes x ≤ ahead i
   pieces_take x i j e = go (part_at s i) (part_lies s i) e
     where
       most : (w a b : ℕ) (z : Size) → token_nodes (text_token w a b z) ≤ 1
-      most w a b (Size.Is n) = two (one_of w (text-then-hole ∷ last-text ∷ [])) (eqb n 0)
+      most w a b (Size.Is n) = two (one_of w (text_then_hole ∷ last_text ∷ [])) (eqb n 0)
         where
           two : (c d : Bool) → cond c (cond d 0 1) 0 ≤ 1
           two true true = omega arith
           two true false = omega arith
           two false d = omega arith
-      most w a b Size.None = two (one_of w (text-then-hole ∷ last-text ∷ []))
+      most w a b Size.None = two (one_of w (text_then_hole ∷ last_text ∷ []))
         where
           two : (c : Bool) → cond c 0 0 ≤ 1
           two true = omega arith
@@ -406,8 +405,8 @@ module _ (s : List ℕ) where
       go : (k : Part) → Parted i (length s) k → piece_of s i k ≡ found x j → ahead j + token_nodes x ≤ ahead i
       go (Before e) (parted_before h m) q =
           let z : e ≡ j = cc in
-          let y : text_token text-then-hole i e (text_of (slice i e s)) ≡ x = cc in
-          let n = most text-then-hole i e (text_of (slice i e s)) in
+          let y : text_token text_then_hole i e (text_of (slice i e s)) ≡ x = cc in
+          let n = most text_then_hole i e (text_of (slice i e s)) in
           let n' = ap token_nodes y in
           elim (dec_le e i) [
             | yes f ↦ (let o = no_text_row i e (omega arith) in omega (arith, z, o, n', h, m))
@@ -415,8 +414,8 @@ module _ (s : List ℕ) where
           ]
       go (Ends e) (parted_ends h m) q =
           let z : e + 1 ≡ j = cc in
-          let y : text_token last-text i e (text_of (slice i e s)) ≡ x = cc in
-          let n = most last-text i e (text_of (slice i e s)) in
+          let y : text_token last_text i e (text_of (slice i e s)) ≡ x = cc in
+          let n = most last_text i e (text_of (slice i e s)) in
           let n' = ap token_nodes y in
           omega (arith, z, n, n', h, m)
       go None parted_none q = let z : ◌≡◌ {A = ℕ} 0 1 = cc in absurd (omega arith)

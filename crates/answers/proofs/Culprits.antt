@@ -18,7 +18,7 @@ use Rattle.tokens.specs.Words.{code_of}
 use Rattle.tokens.specs.Tokens.{step_at, token_of, Listed, list_from, list_of}
 use Rattle.tokens.proofs.Lists.{list_taken, list_refused}
 use Rattle.values.specs.Literals.{literal_of}
-use Rattle.grammar.specs.Words.{words}
+use Rattle.grammar.specs.Words.{f_quote}
 use Rattle.grammar.specs.Grammar.{Token, Look, found, over, wrong}
 use Rattle.grammar.specs.Refusals as grammar
 use Rattle.grammar.specs.Answers.{refused, Answers, accepts, stops, leaves}
@@ -32,7 +32,6 @@ use Rattle.answers.specs.Culprit.{tokens_from, tokens_of, listed, FStringless, B
 use Rattle.answers.proofs.Ahead.{Steps, steps_token, steps_over, steps_quote, steps_wrong, step_goes, ahead, tokens_take}
 use Rattle.answers.proofs.Scans.{look_few}
 use Rattle.answers.proofs.Determined.{whole_number}
-open words use {f-quote}
 
 -- not 5, so neither where the same list goes on
 still : {r r' : Refusal} → r ≡ r' → r.number ≢ 5 → r'.number ≢ 5
@@ -63,7 +62,7 @@ module _ (s : List ℕ) where
 
   -- what is seen from a place with so many steps left: what stands there, the tokens, and how their list ends
   data Seen (n at : ℕ) : Look ℕ → Type 0 where
-    seen_token : {x : Token} {j : ℕ} → tokens_from (suc n) s at ≡ x ∷ tokens_from n s j → (list_from (suc n) s at).ending ≡ (list_from n s j).ending → (x.word ≡ f-quote → ⊥) → Seen n at (found x j)
+    seen_token : {x : Token} {j : ℕ} → tokens_from (suc n) s at ≡ x ∷ tokens_from n s j → (list_from (suc n) s at).ending ≡ (list_from n s j).ending → (x.word ≡ f_quote → ⊥) → Seen n at (found x j)
     seen_quote : {x : Token} {j : ℕ} → (list_from (suc n) s at).ending.number ≡ 5 → Seen n at (found x j)
     seen_over : tokens_from (suc n) s at ≡ [] → (list_from (suc n) s at).ending ≡ record { number = 11; start = length s; end = length s } → Seen n at over
     seen_wrong : {m a b : ℕ} → tokens_from (suc n) s at ≡ [] → (list_from (suc n) s at).ending ≡ record { number = m; start = a; end = b } → Seen n at (wrong m a b)
@@ -87,7 +86,7 @@ module _ (s : List ℕ) where
     tokens : tokens_from n s i ≡ x ∷ tokens_from steps s j
     ending : (list_from n s i).ending ≡ (list_from steps s j).ending
     enough : ahead s j < steps
-    plain : x.word ≡ f-quote → ⊥
+    plain : x.word ≡ f_quote → ⊥
 
   goes : (n i j : ℕ) (x : Token) → ahead s i < n → (list_from n s i).ending.number ≢ 5 → (source s).look i ≡ found x j → Goes n i j x
   goes zero i j x h q e = absurd (omega arith)
@@ -103,7 +102,7 @@ module _ (s : List ℕ) where
       go over (seen_over t l) f = let z : ◌≡◌ {A = ℕ} 0 1 = cc in absurd (omega arith)
       go (wrong m a b) (seen_wrong t l) f = let z : ◌≡◌ {A = ℕ} 0 1 = cc in absurd (omega arith)
 
-  clean : (n : ℕ) {i : ℕ} → ahead s i < n → (list_from n s i).ending.number ≢ 5 → Clean (source s) f-quote i
+  clean : (n : ℕ) {i : ℕ} → ahead s i < n → (list_from n s i).ending.number ≢ 5 → Clean (source s) f_quote i
   clean n h q x j k reach_here e w = (goes n j k x h q e).plain w
   clean n h q x j k (reach_on {x = y} {i = i} {j = m} e' r) e w =
       let g = goes n i m y h q e' in
@@ -186,7 +185,7 @@ module _ (tests tree : Bool) (s : List ℕ) (size : ℕ) where
   number_of f (inl e) = inl (number_is f e)
   number_of f (inr e) = inr (number_is f e)
 
-  clean_source : FStringless s → Clean (source s) f-quote 0
+  clean_source : FStringless s → Clean (source s) f_quote 0
   unfolding list_of
   clean_source q = clean s (length s + 1) (omega arith) q
 

@@ -12,7 +12,7 @@ use Rattle.tokens.specs.declared.Step.TheVariants.{Taken, Refused}
 use Rattle.tokens.specs.Tokens.{step_at, list_from, list_of}
 use Rattle.tokens.proofs.Steps.{taken_good}
 use Rattle.values.specs.declared.Literal.{Literal}
-use Rattle.grammar.specs.Words.{words}
+use Rattle.grammar.specs.Words.{name, '==', ':', 'test'}
 use Rattle.grammar.specs.Grammar.{Token}
 use Rattle.grammar.specs.Culprit.{FreeText}
 use Rattle.answers.specs.Source.{token_for}
@@ -22,7 +22,6 @@ use Rattle.answers.specs.Culprit.{tokens_from, tokens_of, Begins, Named, up_to, 
 use Rattle.answers.proofs.Opened.{lexer, values}
 use Rattle.answers.proofs.Worked.{worked_pairs, more_cases}
 use Rattle.answers.proofs.Culprits.{tokens_taken, tokens_refused, true_culprit}
-open words use {name, '==', ':', 'test'}
 
 -- two ways to part a list at an item: the same, or one before the other
 data Against (b r : List Token) (x : Token) (b' r' : List Token) (x' : Token) : Type 0 where

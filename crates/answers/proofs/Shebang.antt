@@ -17,8 +17,8 @@ use Rattle.tokens.specs.declared.Step.TheVariants.{Refused}
 use Rattle.tokens.specs.declared.Whole.TheVariants.{Fine}
 use Rattle.tokens.specs.Rules.{pair_at}
 use Rattle.tokens.specs.Tokens.{step_at, whole_of}
-use Rattle.grammar.specs.Words.{words}
-use Rattle.grammar.specs.Kinds.{phrases}
+use Rattle.grammar.specs.Words.{f_quote}
+use Rattle.grammar.specs.Kinds.{HOLE}
 use Rattle.grammar.specs.Grammar.{Symbol, Token, Look, found, over, wrong, Stream, Parts, Language}
 use Rattle.grammar.specs.Limits.{Counts}
 use Rattle.grammar.specs.Readings.{Text, reads_end, reads_token, reads_phrase, reads_unless, reads_note, reads_side, reads_text}
@@ -31,8 +31,6 @@ use Rattle.grammar.proofs.Demand.{text_runs}
 use Rattle.answers.specs.Source.{source}
 use Rattle.answers.proofs.Ahead.{left_true, right_true, true_T}
 use Rattle.answers.proofs.Opened.{lexer}
-open words use {f-quote}
-open phrases use {HOLE}
 
 -- where no token starts, nothing is read
 module _ (S : Stream) (l : Language) where
@@ -51,7 +49,7 @@ module _ (S : Stream) (l : Language) where
 
 wrong_none : (S : Stream) (tests tree : Bool) {n a b : ℕ} {i : S.Place} {p : Parts} → S.look i ≡ wrong n a b → Text S (roto tests) (goal tree) i p → ⊥
 wrong_none S tests tree {n} {a} {b} {i} w x =
-    let q = stuck S (roto tests) w (run_quiet f-quote (HOLE ∷ []) (roto tests) (roto_tame tests) S (text_runs S tests tree x) (goal_tame tree) (clean S (roto tests) f-quote i w)).0 in
+    let q = stuck S (roto tests) w (run_quiet f_quote (HOLE ∷ []) (roto tests) (roto_tame tests) S (text_runs S tests tree x) (goal_tame tree) (clean S (roto tests) f_quote i w)).0 in
     let e : wrong n a b ≡ over = sym w ∙ ap S.look (sym q) ∙ x.whole in
     let z : ◌≡◌ {A = ℕ} 0 1 = cc in
     omega arith

@@ -6,7 +6,7 @@ use Prim.Native.Nat.{ℕ}
 use lib.ListN.{length}
 use native.Mathlib.Omega.{arith}
 use Rattle.chars.specs.declared.Answer.{Answer}
-use Rattle.rows.specs.Kinds.{kinds}
+use Rattle.rows.specs.Kinds as kinds
 use Rattle.grammar.specs.Grammar.{Parts}
 use Rattle.grammar.specs.Rows.{Row, blank, write, tree_row, rows}
 use Rattle.grammar.proofs.Subtrees.{each_row, rows_trees, tree_last, tree_count}

@@ -2,9 +2,8 @@
 use mathlib.Core.Path.{◌≡◌, refl}
 use Rattle.chars.specs.Texts.{bytes, same}
 use Rattle.tokens.specs.Words.{two_signs, one_signs, page, words_of, keywords, word_in, name_word}
-use Rattle.grammar.specs.Words.{words}
+use Rattle.grammar.specs.Words.{underscore, name}
 use Rattle.answers.specs.Spelled.{spelled_two, spelled_one, spelled_words}
-open words use {underscore, name}
 
 pub two_signs_lem : two_signs ≡ spelled_two
 unfolding bytes two_signs spelled_two

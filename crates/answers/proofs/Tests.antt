@@ -17,9 +17,9 @@ use Rattle.tokens.specs.declared.Step.TheVariants.{Taken, Refused}
 use Rattle.tokens.specs.Blanks.{skip_all}
 use Rattle.tokens.specs.Rules.{ipv6_at, ipv4_at, two_at, one_at, as_at, hex_at, number_at, quote_at, name_at, pair_at, taken, refused as refusing, or_else, token_at}
 use Rattle.tokens.specs.Tokens.{step_at}
-use Rattle.grammar.specs.Words.{words}
+use Rattle.grammar.specs.Words.{'test', f_quote}
 use Rattle.grammar.specs.Grammar.{Token, Look, found, over, wrong}
-use Rattle.grammar.specs.Kinds.{phrases}
+use Rattle.grammar.specs.Kinds.{DECLARATION}
 use Rattle.grammar.specs.Language.{roto}
 use Rattle.grammar.specs.Readings.{word_of_lem, peek}
 use Rattle.grammar.specs.Refusals.{amiss, said}
@@ -31,8 +31,6 @@ use Rattle.answers.specs.Culprit.{tokens_from, tokens_of, FStringless}
 use Rattle.answers.specs.Tests.{AtTest, NoToken, TwoGrammars}
 use Rattle.answers.proofs.Determined.{one_permitted}
 use Rattle.answers.proofs.Culprits.{literal, tokens_taken, tokens_refused, true_culprit}
-open words use {'test', f-quote}
-open phrases use {DECLARATION}
 
 -- a token begins where it was asked for
 abbrev Starts : ℕ → Step → Type 0
@@ -93,7 +91,7 @@ module _ (s : List ℕ) where
     where
       after : (c q : Bool) (r : Refusal) → look_after c q r ≡ found x j → ⊥
       after true q r f = let z : ◌≡◌ {A = ℕ} 0 1 = cc in omega arith
-      after false true r f = let z : ◌≡◌ {A = ℕ} f-quote 'test' = cc in omega (arith, z)
+      after false true r f = let z : ◌≡◌ {A = ℕ} f_quote 'test' = cc in omega (arith, z)
       after false false r f = let z : ◌≡◌ {A = ℕ} 0 1 = cc in omega arith
 
       go : (k : Step) → step_at s i ≡ k → look_of s k ≡ found x j → (next : Cursor) × (step_at s i ≡ Taken 'test' x.start next)

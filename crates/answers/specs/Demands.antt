@@ -1,7 +1,6 @@
 -- Demands 1 and 3, in document 01's words, of what the entry points (a) and (b) promise: `Permitted`.
 -- `tree`: (a), else (b); `tests`: whether `test` is a declaration; `size`: how many numbers the lent table has.
--- C-22: "Demand 3 has then two grammars, old and new": `Demand3 true` and `Demand3 false`. (a) and (b) promise `Permitted false`,
--- the check of C-21 `Permitted true`.
+-- C-22: "Demand 3 has then two grammars, old and new": `Demand3 true` and `Demand3 false`. (a) and (b) promise `Permitted false`, the check of C-21 `Permitted true`.
 use Rattle.std.specs.Prelude.{◌≡◌, List, ◌++◌, Bool, true, false, ◌≢◌, ℕ, ◌+◌, ◌-◌, ◌*◌, ◌≤◌, ◌<◌, length, replicate}
 use Rattle.chars.specs.declared.Answer.{Answer}
 use Rattle.chars.specs.Chars.{byte_at}

@@ -3,7 +3,7 @@
 -- has.
 use Rattle.std.specs.Prelude.{◌≡◌, List, [], ◌∷◌, ◌++◌, Bool, true, ℕ, ◌-◌, ◌*◌, length, replicate}
 use Rattle.chars.specs.declared.Answer.{Answer}
-use Rattle.rows.specs.Kinds.{kinds}
+use Rattle.rows.specs.Kinds as kinds
 use Rattle.rows.specs.Rows.{width}
 use Rattle.grammar.specs.Rows.{Row, flat}
 use Rattle.grammar.specs.Subtrees.{EachRow}

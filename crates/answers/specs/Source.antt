@@ -13,9 +13,8 @@ use Rattle.texts.specs.Parts.{part_at}
 use Rattle.texts.specs.Texts.{text_of}
 use Rattle.values.specs.declared.Literal.{Literal}
 use Rattle.values.specs.Literals.{literal_of}
-use Rattle.grammar.specs.Words.{words}
+use Rattle.grammar.specs.Words.{f_quote, text_then_hole, last_text}
 use Rattle.grammar.specs.Grammar.{Token, Look, found, over, wrong, Stream}
-open words use {f-quote, text-then-hole, last-text}
 
 -- What a literal says: whether it has a value ("7: literal without a value"), and its row's kind, value and detail.
 abbrev pub holds : Literal → Bool
@@ -42,7 +41,7 @@ token_for w a e l = record { word = w; start = a; end = e; holds = holds l; kind
 -- only").
 abbrev pub look_after : Bool → Bool → Refusal → Look ℕ
 look_after true q r = over
-look_after false true r = found (token_for f-quote r.start r.end Literal.None) r.end
+look_after false true r = found (token_for f_quote r.start r.end Literal.None) r.end
 look_after false false r = wrong r.number r.start r.end
 
 abbrev pub look_of : List ℕ → Step → Look ℕ
@@ -55,8 +54,8 @@ text_token w a e (Size.Is n) = record { word = w; start = a; end = e; holds = tr
 text_token w a e Size.None = record { word = w; start = a; end = e; holds = false; kind = 47; value = 0; detail = 0 }
 
 abbrev pub piece_of : List ℕ → ℕ → Part → Look ℕ
-piece_of s at (Before e) = found (text_token text-then-hole at e (text_of (slice at e s))) e
-piece_of s at (Ends e) = found (text_token last-text at e (text_of (slice at e s))) (e + 1)
+piece_of s at (Before e) = found (text_token text_then_hole at e (text_of (slice at e s))) e
+piece_of s at (Ends e) = found (text_token last_text at e (text_of (slice at e s))) (e + 1)
 piece_of s at None = over
 
 abbrev pub source : List ℕ → Stream

@@ -2,8 +2,7 @@
 use Rattle.std.specs.Prelude.{List, [], ◌∷◌}
 use Rattle.chars.specs.Texts.{bytes}
 use Rattle.tokens.specs.Words.{Entry, ◌is◌}
-use Rattle.grammar.specs.Words.{words}
-open words use {bool, '==', '=>', '!=', '<=', '>=', '&&', '||', '->', '+=', '-=', '*=', '/=', '%=', open-brace, close-brace, open-paren, close-paren, open-bracket, close-bracket, ':', semicolon, comma, dot, '=', '?', '!', '-', '+', '*', '/', '%', '<', '>', 'accept', 'const', 'dep', 'else', 'enum', 'filter', 'filtermap', 'for', 'fn', 'if', 'import', 'in', 'let', 'match', 'pkg', 'record', 'reject', 'return', 'std', 'super', 'test', 'while'}
+use Rattle.grammar.specs.Words.{bool, '==', '=>', '!=', '<=', '>=', '&&', '||', '->', '+=', '-=', '*=', '/=', '%=', open_brace, close_brace, open_paren, close_paren, open_bracket, close_bracket, ':', semicolon, comma, dot, '=', '?', '!', '-', '+', '*', '/', '%', '<', '>', 'accept', 'const', 'dep', 'else', 'enum', 'filter', 'filtermap', 'for', 'fn', 'if', 'import', 'in', 'let', 'match', 'pkg', 'record', 'reject', 'return', 'std', 'super', 'test', 'while'}
 
 -- "`== => != <= >= && || -> += -= *= /= %=`"
 unfoldable pub spelled_two : List Entry
@@ -16,7 +15,7 @@ spelled_two =
 unfoldable pub spelled_one : List Entry
 unfolding bytes
 spelled_one =
-    ("{" is open-brace) ∷ ("}" is close-brace) ∷ ("(" is open-paren) ∷ (")" is close-paren) ∷ ("[" is open-bracket) ∷ ("]" is close-bracket) ∷
+    ("{" is open_brace) ∷ ("}" is close_brace) ∷ ("(" is open_paren) ∷ (")" is close_paren) ∷ ("[" is open_bracket) ∷ ("]" is close_bracket) ∷
     (":" is ':') ∷ (";" is semicolon) ∷ ("," is comma) ∷ ("." is dot) ∷ ("=" is '=') ∷ ("?" is '?') ∷ ("!" is '!') ∷ ("-" is '-') ∷
     ("+" is '+') ∷ ("*" is '*') ∷ ("/" is '/') ∷ ("%" is '%') ∷ ("<" is '<') ∷ (">" is '>') ∷ []
 

@@ -1,14 +1,12 @@
--- C-22: "Tests now live in members' own repositories." "Demand 3 has then two grammars, old and new": `Permitted true` and
--- `Permitted false`. "Refusals: 6 at `test` when a source is read." What the two have to do with each other, for every source and
--- every table: where no `test` stands, they give the same answer and the same table.
+-- C-22: "Tests now live in members' own repositories." "Demand 3 has then two grammars, old and new": `Permitted true` and `Permitted false`. "Refusals: 6 at `test` when a source
+-- is read." What the two have to do with each other, for every source and every table: where no `test` stands, they give the same answer and the same table.
 use Rattle.std.specs.Prelude.{◌≡◌, List, ◌∷◌, ◌++◌, true, false, ◌⊎◌, ◌≢◌, ℕ}
 use Rattle.chars.specs.declared.Answer.{Answer}
-use Rattle.grammar.specs.Words.{words}
+use Rattle.grammar.specs.Words.{'test'}
 use Rattle.grammar.specs.Grammar.{Token, found}
 use Rattle.answers.specs.Source.{source}
 use Rattle.answers.specs.Entries.{Permitted}
 use Rattle.answers.specs.Culprit.{tokens_of, FStringless}
-open words use {'test'}
 
 -- At a byte of the source stands the keyword `test`, and the answer is 6 there.
 pub record AtTest (s : List ℕ) (a : Answer) : Type 0 where

@@ -3,13 +3,12 @@ use mathlib.Core.Path.{◌≡◌, refl, sym, ap, ◌∙◌}
 use mathlib.Core.List.{List, [], ◌∷◌, ◌++◌, append_assoc, append-nil}
 use mathlib.Core.Bool.{Bool, true, false, cond}
 use Prim.Native.Nat.{ℕ}
-use Rattle.grammar.specs.Words.{words}
+use Rattle.grammar.specs.Words.{open_paren, close_paren}
 use Rattle.grammar.specs.Grammar.{one_of}
 use Rattle.canon.specs.Trees.{Label, Forest, none, tree, copied}
 use Rattle.canon.specs.Layout.{Place, needs, Slot, Layout, layout}
 use Rattle.canon.specs.Text.{Bit, sign, copy, signs, paired, inner, place_of, words_of, later, fill}
 use Rattle.canon.specs.Events.{opening, closing, entered, onward, left_behind}
-open words use {open-paren, close-paren}
 
 around : (b : Bool) (xs : List Bit) → paired b xs ≡ opening b ++ (xs ++ closing b)
 around true xs = refl

@@ -1,19 +1,18 @@
 -- The print row by row, in the table's order: what is written when a row is left. A row's words before its first child are
 -- written when the row before its subtree is left, the outermost first.
 use Rattle.std.specs.Prelude.{List, [], ◌∷◌, ◌++◌, Bool, true, false, cond, ℕ}
-use Rattle.grammar.specs.Words.{words}
+use Rattle.grammar.specs.Words.{open_paren, close_paren}
 use Rattle.grammar.specs.Grammar.{one_of}
 use Rattle.canon.specs.Trees.{Label, Forest, none, tree, copied}
 use Rattle.canon.specs.Layout.{Place, needs, Slot, Layout, layout}
 use Rattle.canon.specs.Text.{Bit, sign, copy, signs, inner, place_of, words_of, later}
-open words use {open-paren, close-paren}
 
 abbrev pub opening : Bool → List Bit
-opening true = sign open-paren ∷ []
+opening true = sign open_paren ∷ []
 opening false = []
 
 abbrev pub closing : Bool → List Bit
-closing true = sign close-paren ∷ []
+closing true = sign close_paren ∷ []
 closing false = []
 
 -- the words before a row's first child; all its words, where it has none

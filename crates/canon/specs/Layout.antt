@@ -1,11 +1,10 @@
 -- How each kind of row is written: which words stand before each child, which behind the last, and what the child's place
 -- asks of it. And when a row is put in parentheses.
 use Rattle.std.specs.Prelude.{List, [], ◌∷◌, ◌++◌, Bool, true, false, not, ◌&&◌, ◌||◌, cond, ℕ, suc, pred, eqb, ltb, leb}
-use Rattle.rows.specs.Kinds.{kinds}
-use Rattle.grammar.specs.Words.{assign_signs, binary_signs, return_words, filter_words, four_words, words}
+use Rattle.rows.specs.Kinds as kinds
+use Rattle.grammar.specs.Words.{'=>', '->', open_brace, close_brace, open_paren, close_paren, open_bracket, close_bracket, ':', semicolon, comma, dot, '=', '?', '!', '-', 'const', 'else', 'for', 'fn', 'if', 'import', 'in', 'let', 'match', 'test', 'while', assign_signs, binary_signs, return_words, filter_words, four_words}
 use Rattle.grammar.specs.Grammar.{one_of}
 use Rattle.canon.specs.Trees.{Label, Forest, none, tree}
-open words use {'=>', '->', open-brace, close-brace, open-paren, close-paren, open-bracket, close-bracket, ':', semicolon, comma, dot, '=', '?', '!', '-', 'const', 'else', 'for', 'fn', 'if', 'import', 'in', 'let', 'match', 'test', 'while'}
 
 -- What a place asks: a level at least; whether a record may stand; whether a path may; with which words nothing may begin
 -- there; whether an arm follows.
@@ -48,7 +47,7 @@ level a = let b = binary_level a.detail in cond (one_of a.kind (kinds.ASSIGN ∷
 
 -- The word of its own with which a row begins, if `unless` can ask for it.
 abbrev pub begins : Label → ℕ
-begins a = cond (eqb a.kind kinds.IF) 'if' (cond (eqb a.kind kinds.WHILE) 'while' (cond (eqb a.kind kinds.FOR) 'for' (cond (eqb a.kind kinds.MATCH) 'match' (cond (eqb a.kind kinds.BLOCK || (eqb a.kind kinds.RECORD && eqb a.value 0)) open-brace 0))))
+begins a = cond (eqb a.kind kinds.IF) 'if' (cond (eqb a.kind kinds.WHILE) 'while' (cond (eqb a.kind kinds.FOR) 'for' (cond (eqb a.kind kinds.MATCH) 'match' (cond (eqb a.kind kinds.BLOCK || (eqb a.kind kinds.RECORD && eqb a.value 0)) open_brace 0))))
 
 abbrev pub empty : Forest → Bool
 empty none = true
@@ -110,17 +109,17 @@ nth (c ∷ w) n = cond (eqb n 0) c (nth w (pred n))
 
 -- the words before a block or a result: `)` behind params, `( )` where there are none
 abbrev pub closing : Bool → List ℕ
-closing true = open-paren ∷ close-paren ∷ []
-closing false = close-paren ∷ []
+closing true = open_paren ∷ close_paren ∷ []
+closing false = close_paren ∷ []
 
 -- params, perhaps a result, the block
 abbrev pub headed : Bool → Bool → Forest → List Slot
 headed result bare none = []
 headed result bare (tree a k t) =
-    let param = (cond bare (open-paren ∷ []) (comma ∷ []) then whole) ∷ headed result false t in
+    let param = (cond bare (open_paren ∷ []) (comma ∷ []) then whole) ∷ headed result false t in
     let typed = (closing bare ++ ('->' ∷ []) then whole) ∷ ([] then whole) ∷ [] in
     let block = (closing bare then whole) ∷ [] in
-    cond (eqb a.kind kinds.TYPED-NAME) param (cond result typed block)
+    cond (eqb a.kind kinds.TYPED_NAME) param (cond result typed block)
 
 -- statements: "No `;` that the tree can do without": behind an expr, but behind one of the four only where it ends a block that has no last
 abbrev pub is_four : ℕ → Bool
@@ -136,10 +135,10 @@ abbrev pub between : ℕ → List ℕ
 between k = cond (is_expr k && not (is_four k)) (semicolon ∷ []) []
 
 abbrev pub behind : ℕ → ℕ → List ℕ
-behind v k = cond (is_expr k && eqb v 0) (semicolon ∷ close-brace ∷ []) (close-brace ∷ [])
+behind v k = cond (is_expr k && eqb v 0) (semicolon ∷ close_brace ∷ []) (close_brace ∷ [])
 
 abbrev pub statements : ℕ → List ℕ → Forest → Layout
-statements v w none = ends_with [] (w ++ (close-brace ∷ []))
+statements v w none = ends_with [] (w ++ (close_brace ∷ []))
 statements v w (tree a k none) = ends_with ((w then statement a.kind) ∷ []) (behind v a.kind)
 statements v w (tree a k (tree b j t)) = and_then (w then statement a.kind) (statements v (between a.kind) (tree b j t))
 
@@ -150,17 +149,17 @@ arms w (tree a k t) = (w then with_more (not (empty t))) ∷ arms [] t
 
 -- pattern, perhaps a guard, the body: a block as it stands, else an expr that doesn't begin with `{`, with its comma if an arm follows
 abbrev pub body : Bool → ℕ → Layout
-body more k = ends_with ((('=>' ∷ []) then cond (eqb k kinds.BLOCK) whole (asks 0 true (open-brace ∷ []))) ∷ []) (cond (more && not (eqb k kinds.BLOCK)) (comma ∷ []) [])
+body more k = ends_with ((('=>' ∷ []) then cond (eqb k kinds.BLOCK) whole (asks 0 true (open_brace ∷ []))) ∷ []) (cond (more && not (eqb k kinds.BLOCK)) (comma ∷ []) [])
 
 abbrev pub arm : Bool → ℕ → Forest → Layout
 arm more v ts = let g = and_then (('if' ∷ []) then whole) (body more (first_kind (rest ts))) in and_then ([] then whole) (cond (eqb v 0) (body more (first_kind ts)) g)
 
 -- import paths: items joined by `.`, then perhaps `. { paths }`
 abbrev pub imports : Bool → Bool → Forest → Layout
-imports first group none = ends_with [] (cond group (close-brace ∷ []) [])
+imports first group none = ends_with [] (cond group (close_brace ∷ []) [])
 imports first group (tree a k t) =
     let item = and_then (cond first [] (dot ∷ []) then whole) (imports false false t) in
-    let path = and_then (cond group (comma ∷ []) (dot ∷ open-brace ∷ []) then whole) (imports false true t) in
+    let path = and_then (cond group (comma ∷ []) (dot ∷ open_brace ∷ []) then whole) (imports false true t) in
     cond (eqb a.kind kinds.NAME) item path
 
 -- the parts of a row of one to four children, each after its words
@@ -191,15 +190,15 @@ unfoldable pub layouts : Place → ℕ → ℕ → Forest → List Entry
 layouts c v d ts =
     (kinds.PATH writes ends_with (joined [] (dot ∷ []) whole ts) []) ∷
     (kinds.NEVER writes done ('!' ∷ [])) ∷
-    (kinds.UNIT writes done (open-paren ∷ close-paren ∷ [])) ∷
+    (kinds.UNIT writes done (open_paren ∷ close_paren ∷ [])) ∷
     (kinds.OPTION writes by [] whole (done ('?' ∷ []))) ∷
-    (kinds.PATH-TYPE writes by [] whole (only_if (eqb v 0) (done []) (list_in open-bracket close-bracket whole (rest ts)))) ∷
-    (kinds.RECORD-TYPE writes list_in open-brace close-brace whole ts) ∷
-    (kinds.TYPED-NAME writes by [] whole (by (':' ∷ []) whole (done []))) ∷
+    (kinds.PATH_TYPE writes by [] whole (only_if (eqb v 0) (done []) (list_in open_bracket close_bracket whole (rest ts)))) ∷
+    (kinds.RECORD_TYPE writes list_in open_brace close_brace whole ts) ∷
+    (kinds.TYPED_NAME writes by [] whole (by (':' ∷ []) whole (done []))) ∷
     (kinds.BINARY writes by [] (left (left_level d) c) (by (nth binary_signs (pred d) ∷ []) (right (suc (binary_level d)) c) (done []))) ∷
     (kinds.NOT writes by ('!' ∷ []) (right 6 c) (done [])) ∷
     (kinds.NEGATE writes by ('-' ∷ []) (right 6 c) (done [])) ∷
-    (kinds.CALL writes by [] (left 7 c) (list_in open-paren close-paren whole (rest ts))) ∷
+    (kinds.CALL writes by [] (left 7 c) (list_in open_paren close_paren whole (rest ts))) ∷
     (kinds.ACCESS writes by [] (pathless (left 7 c)) (by (dot ∷ []) whole (done []))) ∷
     (kinds.QUESTION writes by [] (left 7 c) (done ('?' ∷ []))) ∷
     (kinds.ASSIGN writes by [] whole (by (nth assign_signs d ∷ []) (right 1 c) (done []))) ∷
@@ -207,11 +206,11 @@ layouts c v d ts =
     (kinds.IF writes by ('if' ∷ []) head (by [] whole (only_if (empty (rest (rest ts))) (done []) (by ('else' ∷ []) whole (done []))))) ∷
     (kinds.WHILE writes by ('while' ∷ []) head (by [] whole (done []))) ∷
     (kinds.FOR writes by ('for' ∷ []) whole (by ('in' ∷ []) head (by [] whole (done [])))) ∷
-    (kinds.MATCH writes by ('match' ∷ []) head (ends_with (arms (open-brace ∷ []) (rest ts)) (cond (empty (rest ts)) (open-brace ∷ close-brace ∷ []) (close-brace ∷ [])))) ∷
+    (kinds.MATCH writes by ('match' ∷ []) head (ends_with (arms (open_brace ∷ []) (rest ts)) (cond (empty (rest ts)) (open_brace ∷ close_brace ∷ []) (close_brace ∷ [])))) ∷
     (kinds.ARM writes arm c.more v (rest ts)) ∷
-    (kinds.VARIANT writes by [] whole (only_if (eqb v 0) (done []) (list_in open-paren close-paren whole (rest ts)))) ∷
-    (kinds.BLOCK writes statements v (open-brace ∷ []) ts) ∷
-    (kinds.RECORD writes only_if (eqb v 0) (list_in open-brace close-brace whole ts) (by [] whole (list_in open-brace close-brace whole (rest ts)))) ∷
+    (kinds.VARIANT writes by [] whole (only_if (eqb v 0) (done []) (list_in open_paren close_paren whole (rest ts)))) ∷
+    (kinds.BLOCK writes statements v (open_brace ∷ []) ts) ∷
+    (kinds.RECORD writes only_if (eqb v 0) (list_in open_brace close_brace whole ts) (by [] whole (list_in open_brace close_brace whole (rest ts)))) ∷
     (kinds.FIELD writes by [] whole (by (':' ∷ []) whole (done []))) ∷
     (kinds.LET writes by ('let' ∷ []) whole (only_if (eqb v 0) (by ('=' ∷ []) whole (done (semicolon ∷ []))) (by (':' ∷ []) whole (by ('=' ∷ []) whole (done (semicolon ∷ [])))))) ∷
     (kinds.IMPORT writes by ('import' ∷ []) whole (done (semicolon ∷ []))) ∷
@@ -219,7 +218,7 @@ layouts c v d ts =
     (kinds.FN writes by ('fn' ∷ []) whole (ends_with (headed (eqb v 1) true (rest ts)) [])) ∷
     (kinds.TEST writes by ('test' ∷ []) whole (by [] whole (done []))) ∷
     (kinds.TREE writes ends_with (each [] whole ts) []) ∷
-    (kinds.IMPORT-PATH writes imports true false ts) ∷
+    (kinds.IMPORT_PATH writes imports true false ts) ∷
     (kinds.FILTER writes by (nth filter_words (pred d) ∷ []) whole (ends_with (headed false true (rest ts)) [])) ∷
     []
 

@@ -1,12 +1,11 @@
 -- The print of a tree: its tokens, then blanks.
 use Rattle.std.specs.Prelude.{List, [], ◌∷◌, ◌++◌, Bool, true, false, cond, ℕ, eqb}
 use Rattle.tokens.specs.Words.{Entry, two_signs, one_signs, keywords}
-use Rattle.grammar.specs.Words.{words}
+use Rattle.grammar.specs.Words.{open_paren, close_paren, open_brace, close_brace, semicolon}
 use Rattle.grammar.specs.Grammar.{one_of}
 use Rattle.grammar.specs.Rows.{Row}
 use Rattle.canon.specs.Trees.{Label, Forest, none, tree, copied, tree_of}
 use Rattle.canon.specs.Layout.{Place, whole, needs, Slot, Layout, layout}
-open words use {open-paren, close-paren, open-brace, close-brace, semicolon}
 
 -- A token of the print: a sign or a keyword, by its word; a name, a literal or an f-string, by its text.
 pub data Bit : Type 0 where
@@ -18,7 +17,7 @@ signs [] = []
 signs (c ∷ w) = sign c ∷ signs w
 
 abbrev pub paired : Bool → List Bit → List Bit
-paired true xs = sign open-paren ∷ (xs ++ (sign close-paren ∷ []))
+paired true xs = sign open_paren ∷ (xs ++ (sign close_paren ∷ []))
 paired false xs = xs
 
 abbrev pub inner : Bool → Place → Place
@@ -61,7 +60,7 @@ spelling (copy t) = t
 
 -- "a newline alone after `;`, `{` and `}`"
 abbrev pub ends_line : Bit → Bool
-ends_line (sign c) = one_of c (semicolon ∷ open-brace ∷ close-brace ∷ [])
+ends_line (sign c) = one_of c (semicolon ∷ open_brace ∷ close_brace ∷ [])
 ends_line (copy t) = false
 
 -- "one space between tokens, but a newline alone after `;`, `{` and `}`"

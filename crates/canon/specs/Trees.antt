@@ -1,7 +1,7 @@
 -- A table's rows as trees, spans set aside: each row with its own text.
 use Rattle.std.specs.Prelude.{List, [], ◌∷◌, Bool, cond, ℕ, zero, suc, ◌+◌, eqb}
 use Rattle.std.proofs.Math.Seq.{slice}
-use Rattle.rows.specs.Kinds.{kinds}
+use Rattle.rows.specs.Kinds as kinds
 use Rattle.grammar.specs.Grammar.{one_of}
 use Rattle.grammar.specs.Rows.{Row}
 
@@ -19,10 +19,10 @@ pub data Forest : Type 0 where
 
 -- "names and literals copied from the source, an f-string copied whole with its quote" (its row ends before the quote); and `_`.
 abbrev pub copied : List ℕ
-copied = kinds.NAME ∷ kinds.INTEGER ∷ kinds.FLOAT ∷ kinds.BOOL ∷ kinds.ASN ∷ kinds.IPV4 ∷ kinds.IPV6 ∷ kinds.STRING ∷ kinds.CHAR ∷ kinds.ANY ∷ kinds.F-STRING ∷ []
+copied = kinds.NAME ∷ kinds.INTEGER ∷ kinds.FLOAT ∷ kinds.BOOL ∷ kinds.ASN ∷ kinds.IPV4 ∷ kinds.IPV6 ∷ kinds.STRING ∷ kinds.CHAR ∷ kinds.ANY ∷ kinds.F_STRING ∷ []
 
 abbrev pub text_of : List ℕ → Row → List ℕ
-text_of s r = let t = slice r.start (cond (eqb r.kind kinds.F-STRING) (r.end + 1) r.end) s in cond (one_of r.kind copied) t []
+text_of s r = let t = slice r.start (cond (eqb r.kind kinds.F_STRING) (r.end + 1) r.end) s in cond (one_of r.kind copied) t []
 
 abbrev pub label : List ℕ → Row → Label
 label s r = record { kind = r.kind; value = r.value; detail = r.detail; text = text_of s r }

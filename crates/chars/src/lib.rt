@@ -1,6 +1,6 @@
 // The bytes of a source, their classes, and how far a run of one class reaches; and what every entry point answers.
 ghost use Rattle.std.specs.Prelude.{◌≡◌, true, false, ◌+◌, ◌≤◌, length};
-ghost use Rattle.chars.specs.declared.Class.TheVariants.{Ascii, HexColon, Line, NamePart};
+ghost use Rattle.chars.specs.declared.Class.TheVariants.{Ascii, Line, NamePart};
 ghost use Rattle.chars.specs.Chars.{is_blank, is_digit, is_hex_digit, is_letter, is_class, byte_at};
 ghost use Rattle.chars.specs.Runs.{past_run, behind_last};
 ghost use Rattle.chars.specs.Texts.{same};
@@ -14,8 +14,6 @@ pub const MOST_BYTES: usize = 65535;
 const LINE_BLOCK: usize = 16;
 
 const SOURCE_BLOCK: usize = 32;
-
-const ADDRESS_BLOCK: usize = 16;
 
 // The classes of bytes that runs are made of.
 #[derive(Drop)]
@@ -100,10 +98,7 @@ pub fn past(s: &[u8], at: usize, k: Class) -> usize
     ensures { result ≡ past_run (is_class k) s.now at }
 {
     let mut i = at;
-    while i < s.len() {
-        if !is_class(k, s[i] as u16) {
-            return i;
-        }
+    while is_class(k, byte_at(s, i)) {
         i += 1;
     }
     i
@@ -129,23 +124,6 @@ fn has_high(s: &[u8], at: usize) -> bool
     let mut any = false;
     for i in at..at + SOURCE_BLOCK {
         any = any | (128 <= s[i]);
-    }
-    any
-}
-
-// The same of a byte that is neither a hex digit nor a colon.
-fn has_other(s: &[u8], at: usize) -> bool
-    requires { at + 16 ≤ length s.now }
-    ensures { result ≡ false → past_run (is_class HexColon) s.now (at + 16) ≡ past_run (is_class HexColon) s.now at }
-{
-    let mut any = false;
-    for i in at..at + ADDRESS_BLOCK {
-        let b = s[i];
-        any = any
-            | !((48 <= b) & (b <= 57)
-                | (65 <= b) & (b <= 70)
-                | (97 <= b) & (b <= 102)
-                | (b == b':'));
     }
     any
 }
@@ -183,22 +161,6 @@ fn ascii_blocks(s: &[u8], at: usize) -> usize
     i
 }
 
-fn address_blocks(s: &[u8], at: usize) -> usize
-    ensures { past_run (is_class HexColon) s.now result ≡ past_run (is_class HexColon) s.now at }
-{
-    if s.len() < at {
-        return at;
-    }
-    let mut i = at;
-    while i + ADDRESS_BLOCK <= s.len() {
-        if has_other(s, i) {
-            return i;
-        }
-        i += ADDRESS_BLOCK;
-    }
-    i
-}
-
 // As `past` of the class Line, block by block.
 pub fn past_line(s: &[u8], at: usize) -> usize
     ensures { result ≡ past_run (is_class Line) s.now at }
@@ -211,13 +173,6 @@ pub fn past_ascii(s: &[u8], at: usize) -> usize
     ensures { result ≡ past_run (is_class Ascii) s.now at }
 {
     past(s, ascii_blocks(s, at), Class::Ascii)
-}
-
-// As `past` of the class HexColon, block by block.
-pub fn past_address(s: &[u8], at: usize) -> usize
-    ensures { result ≡ past_run (is_class HexColon) s.now at }
-{
-    past(s, address_blocks(s, at), Class::HexColon)
 }
 
 // As `past` of the class NamePart, without a number past the end in the loop.

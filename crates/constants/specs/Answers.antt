@@ -1,7 +1,7 @@
 -- C-18: the answer to a source and a constant's number, and the final content of both lent tables.
 use Rattle.std.specs.Prelude.{◌≡◌, List, [], ◌∷◌, ◌++◌, Bool, true, ◌&&◌, cond, ℕ, suc, ◌-◌, ◌*◌, ◌/◌, ◌≤◌, eqb, ltb, replicate}
 use Rattle.chars.specs.declared.Answer.{Answer}
-use Rattle.rows.specs.Kinds.{kinds}
+use Rattle.rows.specs.Kinds as kinds
 use Rattle.grammar.specs.Rows.{Row}
 use Rattle.answers.specs.Entries as reader
 use Rattle.machine.specs.Values.{bits_of}

@@ -1,6 +1,6 @@
 -- "Translate the expression of a `const` into a flat list of stack instructions, one a row."
 use Rattle.std.specs.Prelude.{List, [], ◌∷◌, ◌++◌, cond, ℕ, eqb}
-use Rattle.rows.specs.Kinds.{kinds}
+use Rattle.rows.specs.Kinds as kinds
 use Rattle.grammar.specs.Rows.{Row}
 use Rattle.machine.specs.Machine.{Instr}
 use Rattle.constants.specs.declared.Fault.{Fault}

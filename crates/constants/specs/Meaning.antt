@@ -1,6 +1,6 @@
 -- C-18: "the meaning of the tree", with whole numbers, the kit's IEEE values and truth values (machine/specs/Values.antt).
 use Rattle.std.specs.Prelude.{List, cond, ℕ, eqb}
-use Rattle.rows.specs.Kinds.{kinds}
+use Rattle.rows.specs.Kinds as kinds
 use Rattle.grammar.specs.Rows.{Row}
 use Rattle.machine.specs.declared.Value.{Value}
 use Rattle.machine.specs.declared.Step.{Step}

@@ -1,6 +1,6 @@
 -- What the functions inside promise: the same from the table's numbers, from the last row to the first. proofs/Whole.antt ties it to the tree.
 use Rattle.std.specs.Prelude.{◌≡◌, List, [], ◌∷◌, ◌++◌, true, cond, ℕ, zero, suc, ◌+◌, ◌*◌, ◌-◌, ◌<◌, ◌≤◌, eqb, ltb, length, set, replicate}
-use Rattle.rows.specs.Kinds.{kinds}
+use Rattle.rows.specs.Kinds as kinds
 use Rattle.rows.specs.Rows.{width}
 use Rattle.grammar.specs.Rows.{Row}
 use Rattle.machine.specs.declared.Ran.{Ran}

@@ -4,7 +4,7 @@
 use Rattle.std.specs.Prelude.{List, [], Bool, ◌&&◌, ◌||◌, cond, ℕ, eqb, leb, length}
 use Rattle.std.proofs.Math.Seq.{slice}
 use Rattle.chars.specs.Texts.{bytes, same}
-use Rattle.rows.specs.Kinds.{kinds}
+use Rattle.rows.specs.Kinds as kinds
 use Rattle.grammar.specs.Rows.{Row}
 use Rattle.numbers.specs.Numbers.{ceiling_of}
 use Rattle.floats.specs.Nearest.{format_of}
@@ -64,7 +64,7 @@ named_of t =
 -- a path with no brackets and one item is written by its item
 unfoldable pub declared_of : List ℕ → ℕ → ℕ → ℕ → ℕ
 unfolding named_of text_at
-declared_of s kind start end = let n : ℕ = named_of (text_at s start end) in cond (eqb kind kinds.PATH-TYPE) n 0
+declared_of s kind start end = let n : ℕ = named_of (text_at s start end) in cond (eqb kind kinds.PATH_TYPE) n 0
 
 -- ---- C-17's answer to the text of a float's row: its number, and its bits
 

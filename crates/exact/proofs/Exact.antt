@@ -5,7 +5,7 @@ use mathlib.Core.Bool.{true, cond}
 use Prim.Native.Nat.{ℕ}
 use lib.Dec.{T}
 use lib.ListN.{length}
-use Rattle.rows.specs.Kinds.{kinds}
+use Rattle.rows.specs.Kinds as kinds
 use Rattle.grammar.specs.Grammar.{Parts, one_of}
 use Rattle.answers.specs.Demands.{Reading}
 use Rattle.canon.specs.Trees.{Forest, copied}
@@ -25,7 +25,7 @@ use Rattle.exact.proofs.ReadBack.{met_reads}
 use Rattle.exact.proofs.Only.{none_can_go, only_print, print_met, print_on_exprs, print_written}
 
 -- each word that is written is a sign or a keyword
-pub written_sure : (xs : List Slot) (last : List ℕ) (m : Marked) → T (sure_slots xs) → T (sure last) → T (sure_bits (written xs last m))
+written_sure : (xs : List Slot) (last : List ℕ) (m : Marked) → T (sure_slots xs) → T (sure last) → T (sure_bits (written xs last m))
 unfolding written
 written_sure xs last no_more h k = signs_sure last k
 written_sure xs last (stands n a kids ts) h k =

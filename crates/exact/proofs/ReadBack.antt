@@ -4,9 +4,9 @@ use mathlib.Core.List.{List, []}
 use mathlib.Core.Bool.{true}
 use Prim.Native.Nat.{ℕ}
 use lib.ListN.{length}
-use Rattle.rows.specs.Kinds.{kinds}
+use Rattle.rows.specs.Kinds as kinds
 use Rattle.grammar.specs.Grammar.{Parts}
-use Rattle.grammar.specs.Kinds.{phrases}
+use Rattle.grammar.specs.Kinds.{TREE}
 use Rattle.grammar.specs.Limits.{kept}
 use Rattle.grammar.specs.Readings.{Text}
 use Rattle.grammar.specs.Language.{roto}
@@ -21,7 +21,6 @@ use Rattle.forests.specs.Met.{Met}
 use Rattle.forests.proofs.Labelled.{forest_labelled}
 use Rattle.exact.specs.Written.{OnExprs, written}
 use Rattle.exact.proofs.Choices.{choice_of, chosen_bits, met_suits}
-open phrases use {TREE}
 
 -- The trees of an accepted source with any pairs, round exprs of the table, that leave no row bare where it needs one: the tokens have a reading, with
 -- the same rows and trees.

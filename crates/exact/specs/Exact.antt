@@ -1,7 +1,7 @@
 -- C-20: "a pair of parentheses exactly where without that pair the text has no reading or another tree, round the smallest row that serves". A reading is
 -- one by the rules, limits set aside.
 use Rattle.std.specs.Prelude.{◌≡◌, List, [], true, ℕ}
-use Rattle.rows.specs.Kinds.{kinds}
+use Rattle.rows.specs.Kinds as kinds
 use Rattle.grammar.specs.Grammar.{Parts}
 use Rattle.answers.specs.Demands.{ByRules, rows_of}
 use Rattle.canon.specs.Trees.{tree_of}

@@ -6,10 +6,10 @@ use mathlib.Core.Logic.{inl, inr}
 use Prim.Native.Nat.{ℕ, suc, ◌≤◌}
 use lib.Dec.{T, eqb, eqb→eq}
 use native.Mathlib.Omega.{arith}
-use Rattle.rows.specs.Kinds.{kinds}
-use Rattle.grammar.specs.Words.{binary_signs, words}
+use Rattle.rows.specs.Kinds as kinds
+use Rattle.grammar.specs.Words.{open_brace, 'if', 'while', 'for', 'match', binary_signs}
 use Rattle.grammar.specs.Grammar.{Ask, Scope, same, Symbol, token, phrase, unless, note, left_side, Token, Parts, end, leaf, node, mark, one_of}
-use Rattle.grammar.specs.Kinds.{phrases}
+use Rattle.grammar.specs.Kinds.{NAME, FIELD, FIELDS, FIELDS_MORE, BLOCK, STATEMENTS, BRACES_INSIDE, EXPRS, ELSE, ARMS, ARM, ARM_BODY, ARM_COMMA, GUARD, PATTERN, VARIANT, VARIANT_NAMES, PARENS}
 use Rattle.grammar.specs.Table.{literal_row}
 use Rattle.grammar.specs.Rows.{Row, own, child, row_of, place_in}
 use Rattle.grammar.specs.Language.{roto}
@@ -24,8 +24,6 @@ use Rattle.forests.proofs.Places.{Tree, top, Fits, Each}
 use Rattle.forests.proofs.Stands.{At, at_whole, at_looser, at_any, at_path, at_first, at_pair, literal_at, record_at, path_record_at, binary_at, question_at, call_at, access_at, assign_at, returns_at, returned_at, Stated, block_at, if_at, while_at, for_at, match_at, Armed, Body, body_at, body_block, arm_at, guarded_at}
 use Rattle.forests.proofs.Claims.{bough, Own, Rest, Leaves, Makes, More, Adds, Returned, returns, nothing, Guarded, no_guard, guards, Ready, bare, guarded, on_own, on_pair, on_word, on_rest, on_end, on_last, makes_from, leaves_made, makes_one, makes_row, makes_as, leaves_as, each_append, branches_each, wholes_pair, adds_end, adds_word, adds_part, adds_own, adds_rest, adds_each}
 use Rattle.forests.proofs.Table.{Claims, Alls, closed}
-open words use {open-brace, 'if', 'while', 'for', 'match'}
-open phrases use {NAME, FIELD, FIELDS, FIELDS-MORE, BLOCK, STATEMENTS, BRACES-INSIDE, EXPRS, ELSE, ARMS, ARM, ARM-BODY, ARM-COMMA, GUARD, PATTERN, VARIANT, VARIANT-NAMES, PARENS}
 
 -- a word's own number
 pub word_is : (c k : ℕ) → T (one_of c (k ∷ [])) → c ≡ k
@@ -244,7 +242,7 @@ module _ (s : List ℕ) (tests : Bool) where
   Block u x = At 7 false false u x × T (eqb x.label.kind kinds.BLOCK)
 
   -- behind `{`: statements and `}`
-  pub inner_block : {g : Ask} {o : Scope} {w : List ℕ} {u : ℕ} {p : Parts} → T (no_text w) → A (phrase o STATEMENTS ∷ token g w ∷ note kinds.BLOCK ∷ []) u p → (x : Token) (part : ℕ) → Makes s (Block open-brace) (word x ∷ []) part p
+  pub inner_block : {g : Ask} {o : Scope} {w : List ℕ} {u : ℕ} {p : Parts} → T (no_text w) → A (phrase o STATEMENTS ∷ token g w ∷ note kinds.BLOCK ∷ []) u p → (x : Token) (part : ℕ) → Makes s (Block open_brace) (word x ∷ []) part p
   unfolding row_of
   inner_block {w = w} t (all_phrase {a = a} {p = p} c (all_token {x = y} m k e (all_note all_end))) x part =
       let h = c (word x ∷ []) part in
@@ -255,15 +253,15 @@ module _ (s : List ℕ) (tests : Bool) where
       ∙ on_word s y (mark kinds.BLOCK end) (word x ∷ h.more) h.part_now (plain_word y w t m))
       (makes_row s kinds.BLOCK (word x ∷ xs) h.part_now refl (block_at h.part_now 0 [] (trees_in s xs) (each_append s Stated h.more (word y ∷ []) h.are tt), tt))
 
-  pub a_block : {g g' : Ask} {o : Scope} {w : List ℕ} {u : ℕ} {p : Parts} → T (no_text w) → A (token g (open-brace ∷ []) ∷ phrase o STATEMENTS ∷ token g' w ∷ note kinds.BLOCK ∷ []) u p → Leaves s (Block u) p
-  a_block t (all_token {x = x} {p = p} m k e h) = subst (λ (v : ℕ). Leaves s (Block v) (leaf x p)) (sym (word_is x.word open-brace m) ∙ e) (leaves_made s (makes_from s (on_word s x p [] 0 (plain_word x (open-brace ∷ []) tt m)) (inner_block t h x 0)))
+  pub a_block : {g g' : Ask} {o : Scope} {w : List ℕ} {u : ℕ} {p : Parts} → T (no_text w) → A (token g (open_brace ∷ []) ∷ phrase o STATEMENTS ∷ token g' w ∷ note kinds.BLOCK ∷ []) u p → Leaves s (Block u) p
+  a_block t (all_token {x = x} {p = p} m k e h) = subst (λ (v : ℕ). Leaves s (Block v) (leaf x p)) (sym (word_is x.word open_brace m) ∙ e) (leaves_made s (makes_from s (on_word s x p [] 0 (plain_word x (open_brace ∷ []) tt m)) (inner_block t h x 0)))
 
-  pub braces : {g : Ask} {o : Scope} {u : ℕ} {p : Parts} → A (token g (open-brace ∷ []) ∷ phrase o BRACES-INSIDE ∷ []) u p → Leaves s (At 7 true false u) p
+  pub braces : {g : Ask} {o : Scope} {u : ℕ} {p : Parts} → A (token g (open_brace ∷ []) ∷ phrase o BRACES_INSIDE ∷ []) u p → Leaves s (At 7 true false u) p
   braces (all_token {x = x} m k e (all_phrase {a = a} {p = p} c all_end)) =
-      subst (λ (v : ℕ). Leaves s (At 7 true false v) (leaf x (node BRACES-INSIDE a p end))) (sym (word_is x.word open-brace m) ∙ e)
-      (leaves_made s (makes_from s (on_word s x (node BRACES-INSIDE a p end) [] 0 (plain_word x (open-brace ∷ []) tt m) ∙ on_last s BRACES-INSIDE a p (word x ∷ []) 0 refl) (c x 0)))
+      subst (λ (v : ℕ). Leaves s (At 7 true false v) (leaf x (node BRACES_INSIDE a p end))) (sym (word_is x.word open_brace m) ∙ e)
+      (leaves_made s (makes_from s (on_word s x (node BRACES_INSIDE a p end) [] 0 (plain_word x (open_brace ∷ []) tt m) ∙ on_last s BRACES_INSIDE a p (word x ∷ []) 0 refl) (c x 0)))
 
-  pub inner_record : {g : Ask} {o o' : Scope} {w : List ℕ} {u : ℕ} {p : Parts} → A (phrase o FIELD ∷ phrase o' FIELDS-MORE ∷ token g w ∷ note kinds.RECORD ∷ []) u p → (x : Token) (part : ℕ) → Makes s (At 7 true false open-brace) (word x ∷ []) part p
+  pub inner_record : {g : Ask} {o o' : Scope} {w : List ℕ} {u : ℕ} {p : Parts} → A (phrase o FIELD ∷ phrase o' FIELDS_MORE ∷ token g w ∷ note kinds.RECORD ∷ []) u p → (x : Token) (part : ℕ) → Makes s (At 7 true false open_brace) (word x ∷ []) part p
   unfolding row_of
   inner_record h x part =
       let c = closed s tests kinds.RECORD tt h (word x ∷ []) part tt in
@@ -344,17 +342,17 @@ module _ (s : List ℕ) (tests : Bool) where
       ∙ ap (λ (ys : List Twig). bough ys 1) (append_assoc xs (word x ∷ []) (twig h ∷ [])))
       h.is
 
-  pub an_arm : {g : Ask} {o₁ o₂ o₃ : Scope} {w : List ℕ} {u : ℕ} {p : Parts} → T (no_text w) → A (phrase o₁ PATTERN ∷ phrase o₂ GUARD ∷ token g w ∷ phrase o₃ ARM-BODY ∷ []) u p → Each Armed (trees_in s (plant s p bud).twigs)
+  pub an_arm : {g : Ask} {o₁ o₂ o₃ : Scope} {w : List ℕ} {u : ℕ} {p : Parts} → T (no_text w) → A (phrase o₁ PATTERN ∷ phrase o₂ GUARD ∷ token g w ∷ phrase o₃ ARM_BODY ∷ []) u p → Each Armed (trees_in s (plant s p bud).twigs)
   an_arm {w = w} t (all_phrase {a = a₁} {p = p₁} c (all_phrase {a = a₂} {p = p₂} d (all_token {x = x} m k e (all_phrase {a = a₃} {p = p₃} b all_end)))) = go (d (twig c ∷ []) 0)
     where
       body : Parts
-      body = leaf x (node ARM-BODY a₃ p₃ end)
+      body = leaf x (node ARM_BODY a₃ p₃ end)
 
       on : plant s (node PATTERN a₁ p₁ (node GUARD a₂ p₂ body)) bud ≡ plant s body (plant s p₂ (bough (twig c ∷ []) 0))
       on = on_own s PATTERN a₁ (node GUARD a₂ p₂ body) [] 0 (refl, refl) c ∙ on_rest s GUARD a₂ p₂ body (twig c ∷ []) 0 refl
 
       behind : (xs : List Twig) (part : ℕ) → plant s body (bough xs part) ≡ plant s p₃ (bough (xs ++ (word x ∷ [])) part)
-      behind xs part = on_word s x (node ARM-BODY a₃ p₃ end) xs part (plain_word x w t m) ∙ on_last s ARM-BODY a₃ p₃ (xs ++ (word x ∷ [])) part refl
+      behind xs part = on_word s x (node ARM_BODY a₃ p₃ end) xs part (plain_word x w t m) ∙ on_last s ARM_BODY a₃ p₃ (xs ++ (word x ∷ [])) part refl
 
       go : Guarded s (twig c ∷ []) 0 p₂ → Each Armed (trees_in s (plant s (node PATTERN a₁ p₁ (node GUARD a₂ p₂ body)) bud).twigs)
       go (no_guard h) = subst (λ (z : Bough). Each Armed (trees_in s z.twigs)) (sym (on ∙ ap (plant s body) h ∙ behind (twig c ∷ []) 0)) (b (twig c ∷ word x ∷ []) 0 (bare x c.row c.pairs c.kids (at_whole c.is)))
@@ -364,25 +362,25 @@ module _ (s : List ℕ) (tests : Bool) where
   -- the body, its row, and the other arms
   with_body : {p q : Parts} (n : ℕ) (a : List Symbol) → Own n → Leaves s Body p → Adds s Armed q → (xs : List Twig) (part : ℕ) → Ready s xs part → Each Armed (trees_in s (plant s (node n a p (mark kinds.ARM q)) (bough xs part)).twigs)
   unfolding row_of
-  with_body {p} {q} n a is_own h k xs part ready = go ready
+  with_body {p} {q} n a is-own h k xs part ready = go ready
     where
       behind : (row : Row) (m : Marked) (xs : List Twig) (part : ℕ) → plant s (node n a p (mark kinds.ARM q)) (bough xs part) ≡ plant s q (bough (branch row 0 m ∷ []) 0) → Armed (top 0 (label s row) m) → Each Armed (trees_in s (plant s (node n a p (mark kinds.ARM q)) (bough xs part)).twigs)
       behind row m xs part e r = let l = k (branch row 0 m ∷ []) 0 in subst (λ (z : Bough). Each Armed (trees_in s z.twigs)) (sym (e ∙ l.added)) (r, l.are)
 
       on : (xs : List Twig) (part : ℕ) → plant s (node n a p (mark kinds.ARM q)) (bough xs part) ≡ plant s q (bough (branch (row_of kinds.ARM (items_of (xs ++ (twig h ∷ []))) part) 0 (trees_in s (xs ++ (twig h ∷ []))) ∷ []) 0)
-      on xs part = on_own s n a (mark kinds.ARM q) xs part is_own h ∙ plant_row s kinds.ARM q (bough (xs ++ (twig h ∷ [])) part) refl
+      on xs part = on_own s n a (mark kinds.ARM q) xs part is-own h ∙ plant_row s kinds.ARM q (bough (xs ++ (twig h ∷ [])) part) refl
 
       go : {xs : List Twig} {part : ℕ} → Ready s xs part → Each Armed (trees_in s (plant s (node n a p (mark kinds.ARM q)) (bough xs part)).twigs)
       go (bare x row pairs kids f) = behind _ _ (branch row pairs kids ∷ word x ∷ []) 0 (on (branch row pairs kids ∷ word x ∷ []) 0) (arm_at (top pairs (label s row) kids) (top h.pairs (label s h.row) h.kids) 0 [] f h.is)
       go (guarded x y row row₂ pairs pairs₂ kids kids₂ f i) = behind _ _ (branch row pairs kids ∷ word x ∷ branch row₂ pairs₂ kids₂ ∷ word y ∷ []) 1 (on (branch row pairs kids ∷ word x ∷ branch row₂ pairs₂ kids₂ ∷ word y ∷ []) 1) (guarded_at (top pairs (label s row) kids) (top pairs₂ (label s row₂) kids₂) (top h.pairs (label s h.row) h.kids) 0 [] f i h.is)
 
-  pub block_body : {o₁ o₂ o₃ : Scope} {u : ℕ} {p : Parts} → A (phrase o₁ BLOCK ∷ note kinds.ARM ∷ phrase o₂ ARM-COMMA ∷ phrase o₃ ARMS ∷ []) u p → (xs : List Twig) (part : ℕ) → Ready s xs part → Each Armed (trees_in s (plant s p (bough xs part)).twigs)
-  block_body (all_phrase {a = a} c (all_note (all_phrase {a = b} d (all_phrase {a = a₂} e all_end)))) = with_body BLOCK a (refl, refl) (leaves_as s (λ x k. body_block x k.1 (at_whole k.0)) c) (adds_rest s ARM-COMMA b refl d (adds_own s ARMS a₂ (refl, refl) e (adds_end s)))
+  pub block_body : {o₁ o₂ o₃ : Scope} {u : ℕ} {p : Parts} → A (phrase o₁ BLOCK ∷ note kinds.ARM ∷ phrase o₂ ARM_COMMA ∷ phrase o₃ ARMS ∷ []) u p → (xs : List Twig) (part : ℕ) → Ready s xs part → Each Armed (trees_in s (plant s p (bough xs part)).twigs)
+  block_body (all_phrase {a = a} c (all_note (all_phrase {a = b} d (all_phrase {a = a₂} e all_end)))) = with_body BLOCK a (refl, refl) (leaves_as s (λ x k. body_block x k.1 (at_whole k.0)) c) (adds_rest s ARM_COMMA b refl d (adds_own s ARMS a₂ (refl, refl) e (adds_end s)))
 
-  pub expr_body : {o₁ o₂ : Scope} {n m u : ℕ} {p : Parts} → Own n → Rest m → ((v : ℕ) (x : Parts) → C n v x → Leaves s (At 0 true true v) x) → ((v : ℕ) (x : Parts) → C m v x → Adds s Armed x) → A (unless (open-brace ∷ []) ∷ phrase o₁ n ∷ note kinds.ARM ∷ phrase o₂ m ∷ []) u p → (xs : List Twig) (part : ℕ) → Ready s xs part → Each Armed (trees_in s (plant s p (bough xs part)).twigs)
+  pub expr_body : {o₁ o₂ : Scope} {n m u : ℕ} {p : Parts} → Own n → Rest m → ((v : ℕ) (x : Parts) → C n v x → Leaves s (At 0 true true v) x) → ((v : ℕ) (x : Parts) → C m v x → Adds s Armed x) → A (unless (open_brace ∷ []) ∷ phrase o₁ n ∷ note kinds.ARM ∷ phrase o₂ m ∷ []) u p → (xs : List Twig) (part : ℕ) → Ready s xs part → Each Armed (trees_in s (plant s p (bough xs part)).twigs)
   expr_body {n = n} {m = m} {u = u} on om f g (all_unless t (all_phrase {a = a} {p = p} c (all_note {u = v} (all_phrase {a = b} {p = q} d all_end)))) = with_body n a on (leaves_as s (λ x k. body_at t k) (f u p c)) (adds_rest s m b om (g v q d) (adds_end s))
 
-  pub a_variant : {o o' : Scope} {u : ℕ} {p : Parts} → A (phrase o VARIANT ∷ phrase o' VARIANT-NAMES ∷ []) u p → Leaves s (At 7 false false 0) p
+  pub a_variant : {o o' : Scope} {u : ℕ} {p : Parts} → A (phrase o VARIANT ∷ phrase o' VARIANT_NAMES ∷ []) u p → Leaves s (At 7 false false 0) p
   a_variant (all_phrase {a = a} {p = p} c (all_phrase {a = b} {p = q} d all_end)) =
       let ys = branches false (plant s p bud).twigs in
-      leaves_made s (makes_from s (plant_phrase s VARIANT a p (node VARIANT-NAMES b q end) bud refl ∙ on_last s VARIANT-NAMES b q ys 0 refl) (d ys 0 (wholes_pair s false (plant s p bud).twigs (c.kept [] 0 tt))))
+      leaves_made s (makes_from s (plant_phrase s VARIANT a p (node VARIANT_NAMES b q end) bud refl ∙ on_last s VARIANT_NAMES b q ys 0 refl) (d ys 0 (wholes_pair s false (plant s p bud).twigs (c.kept [] 0 tt))))

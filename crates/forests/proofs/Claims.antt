@@ -5,7 +5,7 @@ use mathlib.Core.Bool.{Bool, true, false, cond}
 use Prim.Native.Nat.{ℕ, suc}
 use lib.Dec.{T, eqb}
 use Rattle.grammar.specs.Grammar.{Symbol, Token, Parts, end, leaf, node, mark, one_of}
-use Rattle.grammar.specs.Kinds.{phrases}
+use Rattle.grammar.specs.Kinds.{PARENS}
 use Rattle.grammar.specs.Table.{rest_kinds}
 use Rattle.grammar.specs.Rows.{Row, row_of, is_text, text_row}
 use Rattle.canon.specs.Trees.{label}
@@ -14,7 +14,6 @@ use Rattle.forests.specs.Planted.{Marked, no_more, Twig, word, branch, items_of,
 use Rattle.forests.proofs.Grown.{trees_append, plant_word, plant_phrase, plant_rest, plant_row, plant_part}
 use Rattle.forests.proofs.Places.{Tree, top, Fits, Each, each_beside, fits_whole, fits_pair, met_none}
 use Rattle.forests.proofs.Stands.{At}
-open phrases use {PARENS}
 
 abbrev pub bough : List Twig → ℕ → Bough
 bough xs part = record { twigs = xs; part = part }

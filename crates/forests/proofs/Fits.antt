@@ -5,10 +5,10 @@ use mathlib.Core.Bool.{Bool, true, false, not}
 use Prim.Native.Nat.{ℕ}
 use lib.Dec.{T, T_not}
 use native.Mathlib.Omega.{arith}
-use Rattle.rows.specs.Kinds.{kinds}
-use Rattle.grammar.specs.Words.{compare_signs, sum_signs, product_signs, binary_signs, words}
+use Rattle.rows.specs.Kinds as kinds
+use Rattle.grammar.specs.Words.{'||', '&&', compare_signs, sum_signs, product_signs, binary_signs}
 use Rattle.grammar.specs.Grammar.{Ask, Symbol, Token, found, Stream, Parts, end, Rule, alternatives, In, one_of}
-use Rattle.grammar.specs.Kinds.{records, no_records, phrases}
+use Rattle.grammar.specs.Kinds.{records, no_records, TYPED_NAME, TYPED_NAMES, TYPED_NAMES_MORE, TYPE, TYPES, TYPES_MORE, EXPR, EXPRS, EXPRS_MORE, FIELD, FIELDS, FIELDS_MORE, NAME, NAMES, NAMES_MORE}
 use Rattle.grammar.specs.Readings.{ReadingBy, Text, peek}
 use Rattle.grammar.specs.Limits.{Counts}
 use Rattle.grammar.specs.Table.{list_of, lists, declarations, paths, types, blocks, exprs, atoms, arms, rules}
@@ -27,8 +27,6 @@ use Rattle.forests.proofs.Stands.{At, at_whole, at_looser, at_any, at_path, at_f
 use Rattle.forests.proofs.Claims.{bough, Leaves, on_own, on_end, leaves_as, makes_as, leaves_each}
 use Rattle.forests.proofs.Table.{claim_of, Claims, K, Alls, shown, shows, keeps_all}
 use Rattle.forests.proofs.Alternatives.{adds_none, adds_noted, adds_one, adds_on, adds_item, adds_behind, adds_comma, adds_behind_own, adds_unless, around, chain, pair_chain, more_none, more_signed, once_signed, assigned, sided, returned_expr, returned_none, return_form, prefixed, questioned, called, accessed, path_record, literal, inner_block, a_block, braces, inner_record, an_if, a_while, a_for, a_match, no_arms, some_arms, no_guards, some_guard, an_arm, block_body, expr_body, a_variant}
-open words use {'||', '&&'}
-open phrases use {TYPED-NAME, TYPED-NAMES, TYPED-NAMES-MORE, TYPE, TYPES, TYPES-MORE, EXPR, EXPRS, EXPRS-MORE, FIELD, FIELDS, FIELDS-MORE, NAME, NAMES, NAMES-MORE}
 
 -- the levels of signs
 signs : (w : List ℕ) (n j : ℕ) → Both (λ c. (binary_level (place_in c binary_signs) ≡ n) × (left_level (place_in c binary_signs) ≡ j)) w → (c : ℕ) → T (one_of c w) → (binary_level (place_in c binary_signs) ≡ n) × (left_level (place_in c binary_signs) ≡ j)
@@ -54,7 +52,7 @@ module _ (s : List ℕ) (tests : Bool) where
   path_operand : {r : Bool} {u : ℕ} {p : Parts} → Leaves s (At 7 r true u) p → Leaves s (At 6 r true u) p
   path_operand h = leaves_as s (λ x k. at_looser 6 (omega arith) k) h
 
-  in_exprs : Rules D (list_of (EXPR records) EXPRS EXPRS-MORE)
+  in_exprs : Rules D (list_of (EXPR records) EXPRS EXPRS_MORE)
   in_exprs = (
     (λ t u p h. adds_none s tests h, (λ t u p h. adds_item s tests (refl, refl) refl (λ v q c. leaves_each s (Fits whole) (leaves_as s (λ y k. at_whole k) c)) (λ v q c. c) h, tt)),
     (
@@ -66,10 +64,10 @@ module _ (s : List ℕ) (tests : Bool) where
   in_lists : Rules D lists
   unfolding lists
   in_lists =
-      let after-fields = list_of FIELD FIELDS FIELDS-MORE ++ list_of NAME NAMES NAMES-MORE in
-      let after-exprs = list_of (EXPR records) EXPRS EXPRS-MORE ++ after-fields in
-      rules_two D (list_of TYPED-NAME TYPED-NAMES TYPED-NAMES-MORE) (list_of TYPE TYPES TYPES-MORE ++ after-exprs) (covered (list_of TYPED-NAME TYPED-NAMES TYPED-NAMES-MORE) tt)
-      (rules_two D (list_of TYPE TYPES TYPES-MORE) after-exprs (covered (list_of TYPE TYPES TYPES-MORE) tt) (rules_two D (list_of (EXPR records) EXPRS EXPRS-MORE) after-fields in_exprs (covered after-fields tt)))
+      let after-fields = list_of FIELD FIELDS FIELDS_MORE ++ list_of NAME NAMES NAMES_MORE in
+      let after-exprs = list_of (EXPR records) EXPRS EXPRS_MORE ++ after-fields in
+      rules_two D (list_of TYPED_NAME TYPED_NAMES TYPED_NAMES_MORE) (list_of TYPE TYPES TYPES_MORE ++ after-exprs) (covered (list_of TYPED_NAME TYPED_NAMES TYPED_NAMES_MORE) tt)
+      (rules_two D (list_of TYPE TYPES TYPES_MORE) after-exprs (covered (list_of TYPE TYPES TYPES_MORE) tt) (rules_two D (list_of (EXPR records) EXPRS EXPRS_MORE) after-fields in_exprs (covered after-fields tt)))
 
   in_paths : Rules D paths
   unfolding paths

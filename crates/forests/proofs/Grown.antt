@@ -7,7 +7,7 @@ use lib.Dec.{eqb}
 use lib.ListN.{length, length-append}
 use native.Mathlib.Omega.{arith}
 use Rattle.grammar.specs.Grammar.{Symbol, Token, Parts, end, leaf, node, mark, one_of}
-use Rattle.grammar.specs.Kinds.{phrases}
+use Rattle.grammar.specs.Kinds.{TREE, PARENS}
 use Rattle.grammar.specs.Table.{rest_kinds}
 use Rattle.grammar.specs.Rows.{Row, Item, own, child, count, sizes, children_of, row_of, Draft, blank, take_note, add_row, is_text, text_row, add_token, write, tree_row, rows_from, rows}
 use Rattle.grammar.specs.Subtrees as subtrees
@@ -18,7 +18,6 @@ use Rattle.canon.specs.Trees.{Label, Forest, none, tree, label, adopt, grown, tr
 use Rattle.forests.specs.Planted.{Marked, no_more, stands, unmarked, Twig, word, branch, items_of, trees_in, branches, Bough, bud, with_row, plant_note, with_word, with_text, plant_token, with_trees, plant, marked_from, marked, forest}
 use Rattle.forests.specs.Told.{Told, told, trees, tells}
 use Rattle.forests.specs.Told as forests
-open phrases use {TREE, PARENS}
 
 -- ---- the laws of `plant`: one for each shape of a reading's parts
 

@@ -6,8 +6,8 @@ use mathlib.Core.Logic.{inl, inr}
 use Prim.Native.Nat.{ℕ, zero, suc, ◌≤◌}
 use lib.Dec.{T, eqb, ltb, ltb→lt, eqb→eq}
 use native.Mathlib.Omega.{arith}
-use Rattle.rows.specs.Kinds.{kinds}
-use Rattle.grammar.specs.Words.{words}
+use Rattle.rows.specs.Kinds as kinds
+use Rattle.grammar.specs.Words.{open_brace, close_brace, open_paren, close_paren, open_bracket, close_bracket, comma, dot, semicolon, ':', '=', '->'}
 use Rattle.grammar.specs.Grammar.{one_of}
 use Rattle.grammar.proofs.Bools.{or_cases}
 use Rattle.canon.specs.Trees.{Label, Forest, none, tree}
@@ -16,7 +16,6 @@ use Rattle.canon.specs.Text.{place_of, later}
 use Rattle.forests.specs.Planted.{Marked, no_more, stands, unmarked}
 use Rattle.forests.specs.Met.{within, served, Met}
 use Rattle.forests.proofs.Grown.{beside}
-open words use {open-brace, close-brace, open-paren, close-paren, open-bracket, close-bracket, comma, dot, semicolon, ':', '=', '->'}
 
 -- one tree: the pairs round it, its label, the trees under it
 pub record Tree : Type 0 where
@@ -118,12 +117,12 @@ headed_wholes r b none = tt
 headed_wholes r b (tree a k t) =
     let typed = (closing b ++ ('->' ∷ []) then whole) ∷ ([] then whole) ∷ [] in
     let block = (closing b then whole) ∷ [] in
-    wholes_either (eqb a.kind kinds.TYPED-NAME) ((cond b (open-paren ∷ []) (comma ∷ []) then whole) ∷ headed r false t) (cond r typed block) (refl, headed_wholes r false t) (wholes_either r typed block (refl, (refl, tt)) (refl, tt))
+    wholes_either (eqb a.kind kinds.TYPED_NAME) ((cond b (open_paren ∷ []) (comma ∷ []) then whole) ∷ headed r false t) (cond r typed block) (refl, headed_wholes r false t) (wholes_either r typed block (refl, (refl, tt)) (refl, tt))
 
 imports_wholes : (a b : Bool) (f : Forest) → Wholes (imports a b f).slots
 imports_wholes a b none = tt
 imports_wholes a b (tree x k t) =
-    layouts_either (eqb x.kind kinds.NAME) (and_then (cond a [] (dot ∷ []) then whole) (imports false false t)) (and_then (cond b (comma ∷ []) (dot ∷ open-brace ∷ []) then whole) (imports false true t)) (refl, imports_wholes false false t) (refl, imports_wholes false true t)
+    layouts_either (eqb x.kind kinds.NAME) (and_then (cond a [] (dot ∷ []) then whole) (imports false false t)) (and_then (cond b (comma ∷ []) (dot ∷ open_brace ∷ []) then whole) (imports false true t)) (refl, imports_wholes false false t) (refl, imports_wholes false true t)
 
 -- ---- kinds of which all children stand at places that ask nothing
 
@@ -141,7 +140,7 @@ labelled k v d t = record { kind = k; value = v; detail = d; text = t }
 -- level 7, no record, no word that `unless` can ask for: and a path, which may be asked for none
 abbrev pub ordinary : List ℕ
 ordinary =
-    kinds.NAME ∷ kinds.NEVER ∷ kinds.UNIT ∷ kinds.OPTION ∷ kinds.PATH-TYPE ∷ kinds.RECORD-TYPE ∷ kinds.TYPED-NAME ∷ kinds.ANY ∷ kinds.VARIANT ∷ kinds.FIELD ∷ kinds.LET ∷ kinds.IMPORT ∷ kinds.CONST ∷ kinds.FN ∷ kinds.TEST ∷ kinds.TREE ∷ kinds.IMPORT-PATH ∷ kinds.FILTER ∷ kinds.F-STRING ∷ kinds.TEXT ∷
+    kinds.NAME ∷ kinds.NEVER ∷ kinds.UNIT ∷ kinds.OPTION ∷ kinds.PATH_TYPE ∷ kinds.RECORD_TYPE ∷ kinds.TYPED_NAME ∷ kinds.ANY ∷ kinds.VARIANT ∷ kinds.FIELD ∷ kinds.LET ∷ kinds.IMPORT ∷ kinds.CONST ∷ kinds.FN ∷ kinds.TEST ∷ kinds.TREE ∷ kinds.IMPORT_PATH ∷ kinds.FILTER ∷ kinds.F_STRING ∷ kinds.TEXT ∷
     kinds.PATH ∷ []
 
 pub onlys : (b : Bool) (x y : Layout) → Wholes x.slots → Wholes y.slots → Wholes (only_if b x y).slots
@@ -154,15 +153,15 @@ module _ (c : Place) (v d : ℕ) (t : List ℕ) (f : Forest) where
 
   pub record_wholes : AllWhole kinds.RECORD
   unfolding layout layouts
-  record_wholes = onlys (eqb v 0) (list_in open-brace close-brace whole f) (by [] whole (list_in open-brace close-brace whole (rest f))) (joined_wholes (open-brace ∷ []) (comma ∷ []) f) (refl, joined_wholes (open-brace ∷ []) (comma ∷ []) (rest f))
+  record_wholes = onlys (eqb v 0) (list_in open_brace close_brace whole f) (by [] whole (list_in open_brace close_brace whole (rest f))) (joined_wholes (open_brace ∷ []) (comma ∷ []) f) (refl, joined_wholes (open_brace ∷ []) (comma ∷ []) (rest f))
 
-  path_type : AllWhole kinds.PATH-TYPE
+  path_type : AllWhole kinds.PATH_TYPE
   unfolding layout layouts
-  path_type = (refl, onlys (eqb v 0) (done []) (list_in open-bracket close-bracket whole (rest f)) tt (joined_wholes (open-bracket ∷ []) (comma ∷ []) (rest f)))
+  path_type = (refl, onlys (eqb v 0) (done []) (list_in open_bracket close_bracket whole (rest f)) tt (joined_wholes (open_bracket ∷ []) (comma ∷ []) (rest f)))
 
   variant : AllWhole kinds.VARIANT
   unfolding layout layouts
-  variant = (refl, onlys (eqb v 0) (done []) (list_in open-paren close-paren whole (rest f)) tt (joined_wholes (open-paren ∷ []) (comma ∷ []) (rest f)))
+  variant = (refl, onlys (eqb v 0) (done []) (list_in open_paren close_paren whole (rest f)) tt (joined_wholes (open_paren ∷ []) (comma ∷ []) (rest f)))
 
   let_in : AllWhole kinds.LET
   unfolding layout layouts
@@ -170,4 +169,4 @@ module _ (c : Place) (v d : ℕ) (t : List ℕ) (f : Forest) where
 
   pub ordinary_wholes : (k : ℕ) → T (one_of k ordinary) → AllWhole k
   unfolding layout layouts
-  ordinary_wholes = one_of_each AllWhole ordinary (tt, (tt, (tt, ((refl, tt), (path_type, (joined_wholes (open-brace ∷ []) (comma ∷ []) f, ((refl, (refl, tt)), (tt, (variant, ((refl, (refl, tt)), (let_in, ((refl, tt), ((refl, (refl, (refl, tt))), ((refl, headed_wholes (eqb v 1) true (rest f)), ((refl, (refl, tt)), (each_wholes [] f, (imports_wholes true false f, ((refl, headed_wholes false true (rest f)), (tt, (tt, (joined_wholes [] (dot ∷ []) f, tt)))))))))))))))))))))
+  ordinary_wholes = one_of_each AllWhole ordinary (tt, (tt, (tt, ((refl, tt), (path_type, (joined_wholes (open_brace ∷ []) (comma ∷ []) f, ((refl, (refl, tt)), (tt, (variant, ((refl, (refl, tt)), (let_in, ((refl, tt), ((refl, (refl, (refl, tt))), ((refl, headed_wholes (eqb v 1) true (rest f)), ((refl, (refl, tt)), (each_wholes [] f, (imports_wholes true false f, ((refl, headed_wholes false true (rest f)), (tt, (tt, (joined_wholes [] (dot ∷ []) f, tt)))))))))))))))))))))

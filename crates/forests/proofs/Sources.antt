@@ -8,7 +8,7 @@ use lib.ListN.{length}
 use lib.Seq.{slice}
 use native.Mathlib.Omega.{arith}
 use Rattle.chars.specs.Texts.{bytes, same}
-use Rattle.rows.specs.Kinds.{kinds}
+use Rattle.rows.specs.Kinds as kinds
 use Rattle.tokens.specs.declared.Refusal.{Refusal}
 use Rattle.tokens.specs.declared.Step.{Step}
 use Rattle.tokens.specs.declared.Step.TheVariants.{Taken, Refused}
@@ -29,7 +29,7 @@ use Rattle.texts.specs.Parts.{part_at}
 use Rattle.texts.specs.Texts.{text_of}
 use Rattle.values.specs.declared.Literal.{Literal}
 use Rattle.values.specs.Literals.{from_amount, from_number, from_quad, from_address, from_size, from_point, bool_of, literal_of}
-use Rattle.grammar.specs.Words.{words}
+use Rattle.grammar.specs.Words.{f_quote, text_then_hole, last_text}
 use Rattle.grammar.specs.Grammar.{Token, found, Parts, one_of}
 use Rattle.grammar.specs.Readings.{Text}
 use Rattle.grammar.specs.Rows.{rows}
@@ -42,7 +42,6 @@ use Rattle.forests.specs.Met.{Met}
 use Rattle.forests.proofs.Stands.{literal_kinds}
 use Rattle.forests.proofs.Table.{K}
 use Rattle.forests.proofs.Fits.{bare_fits, bare_fits_by, reading_grows}
-open words use {f-quote, text-then-hole, last-text}
 
 abbrev Kind : Literal → Type 0
 Kind l = T (one_of (kind_of l) literal_kinds)
@@ -109,7 +108,7 @@ literal_kind c text =
 module _ (s : List ℕ) where
   after_known : (x : Token) (j : ℕ) (c q : Bool) (r : Refusal) → look_after c q r ≡ found x j → K x
   after_known x j true q r e = let z : ◌≡◌ {A = ℕ} 0 1 = cc in absurd (omega arith)
-  after_known x j false true r e = let y : token_for f-quote r.start r.end Literal.None ≡ x = cc in subst K y tt
+  after_known x j false true r e = let y : token_for f_quote r.start r.end Literal.None ≡ x = cc in subst K y tt
   after_known x j false false r e = let z : ◌≡◌ {A = ℕ} 0 1 = cc in absurd (omega arith)
 
   step_known : (x : Token) (j : ℕ) (k : Step) → look_of s k ≡ found x j → K x
@@ -126,8 +125,8 @@ module _ (s : List ℕ) where
   text_known w a e Size.None = tt
 
   part_known : (x : Token) (i j : ℕ) (k : Part) → piece_of s i k ≡ found x j → K x
-  part_known x i j (Before e) q = let y : text_token text-then-hole i e (text_of (slice i e s)) ≡ x = cc in subst K y (text_known text-then-hole i e (text_of (slice i e s)))
-  part_known x i j (Ends e) q = let y : text_token last-text i e (text_of (slice i e s)) ≡ x = cc in subst K y (text_known last-text i e (text_of (slice i e s)))
+  part_known x i j (Before e) q = let y : text_token text_then_hole i e (text_of (slice i e s)) ≡ x = cc in subst K y (text_known text_then_hole i e (text_of (slice i e s)))
+  part_known x i j (Ends e) q = let y : text_token last_text i e (text_of (slice i e s)) ≡ x = cc in subst K y (text_known last_text i e (text_of (slice i e s)))
   part_known x i j None q = let z : ◌≡◌ {A = ℕ} 0 1 = cc in absurd (omega arith)
 
   pub pieces_known : (i j : ℕ) (x : Token) → (source s).piece i ≡ found x j → K x

@@ -5,8 +5,8 @@ use mathlib.Core.Bool.{Bool, true, false, not, cond}
 use Prim.Native.Nat.{ℕ, suc, ◌≤◌}
 use lib.Dec.{T, eqb}
 use native.Mathlib.Omega.{arith}
-use Rattle.rows.specs.Kinds.{kinds}
-use Rattle.grammar.specs.Words.{four_words, words}
+use Rattle.rows.specs.Kinds as kinds
+use Rattle.grammar.specs.Words.{open_brace, open_paren, comma, 'if', 'else', 'while', 'for', 'match', four_words}
 use Rattle.grammar.specs.Grammar.{one_of}
 use Rattle.canon.specs.Trees.{Label, Forest}
 use Rattle.canon.specs.Layout.{Place, asks, whole, head, left, right, pathless, with_more, binary_level, left_level, level, begins, empty, Slot, ◌then◌, statement, statements, arms, is_four, rest, joined, between, by, done, layouts, layout}
@@ -14,7 +14,6 @@ use Rattle.canon.specs.Text.{place_of, later}
 use Rattle.forests.specs.Planted.{Marked, no_more, stands, unmarked}
 use Rattle.forests.specs.Met.{Met}
 use Rattle.forests.proofs.Places.{Tree, top, Fits, Each, not_needs, recorded, fits_pair, met_tree, met_none, met_wholes, joined_wholes, onlys, one_of_each, labelled, ordinary, record_wholes, ordinary_wholes}
-open words use {open-brace, open-paren, comma, 'if', 'else', 'while', 'for', 'match'}
 
 -- A place that asks for level n at most, for no record only if r is false, for no path only if q is false, and not against a row that begins with u.
 pub record Allows (n : ℕ) (r q : Bool) (u : ℕ) (c : Place) : Type 0 where
@@ -81,10 +80,10 @@ literal_at k v d t o = plain_at k v d t no_more false is.0 (λ x. absurd (is.1 x
     is = one_of_each (λ n. Seven v d t (unmarked no_more) n × (T (eqb n kinds.PATH) → ⊥)) literal_kinds ((seven, λ x. x), ((seven, λ x. x), ((seven, λ x. x), ((seven, λ x. x), ((seven, λ x. x), ((seven, λ x. x), ((seven, λ x. x), ((seven, λ x. x), ((seven, λ x. x), ((seven, λ x. x), tt)))))))))) k o
 
 -- a record, without its path; with it
-pub record_at : (v d : ℕ) (t : List ℕ) (m : Marked) → Each (Fits whole) m → At 7 true false open-brace (top 0 (labelled kinds.RECORD v d t) m)
+pub record_at : (v d : ℕ) (t : List ℕ) (m : Marked) → Each (Fits whole) m → At 7 true false open_brace (top 0 (labelled kinds.RECORD v d t) m)
 record_at v d t m h = record { fits = λ c g. let a = labelled kinds.RECORD v d t in record { serves = not_needs c a (unmarked m) g.level (λ x. absurd x) (λ x. g.records tt) (go c g (eqb v 0)); met = met_wholes (layout c a (unmarked m)).slots m (record_wholes c v d t (unmarked m)) h } }
   where
-    go : (c : Place) → Allows 7 true false open-brace c → (b : Bool) → T (not (one_of (cond b open-brace 0) c.unless))
+    go : (c : Place) → Allows 7 true false open_brace c → (b : Bool) → T (not (one_of (cond b open_brace 0) c.unless))
     go c g true = g.first
     go c g false = g.word
 
@@ -148,7 +147,7 @@ question_at x v d t h = record { fits = λ c g. record { serves = not_needs c (l
 
 pub call_at : {r : Bool} {u : ℕ} (x : Tree) (ts : Marked) (v d : ℕ) (t : List ℕ) → At 7 r true u x → Each (Fits whole) ts → At 7 r false u (top 0 (labelled kinds.CALL v d t) (x also ts))
 unfolding layout layouts unmarked
-call_at x ts v d t h k = record { fits = λ c g. record { serves = not_needs c (labelled kinds.CALL v d t) (unmarked (x also ts)) g.level (λ z. absurd z) (λ z. absurd z) g.word; met = met_first (layout c (labelled kinds.CALL v d t) (unmarked (x also ts))).slots x ts (h.fits (left 7 c) (left_allows 7 g)) (met_wholes (joined (open-paren ∷ []) (comma ∷ []) whole (unmarked ts)) ts (joined_wholes (open-paren ∷ []) (comma ∷ []) (unmarked ts)) k) } }
+call_at x ts v d t h k = record { fits = λ c g. record { serves = not_needs c (labelled kinds.CALL v d t) (unmarked (x also ts)) g.level (λ z. absurd z) (λ z. absurd z) g.word; met = met_first (layout c (labelled kinds.CALL v d t) (unmarked (x also ts))).slots x ts (h.fits (left 7 c) (left_allows 7 g)) (met_wholes (joined (open_paren ∷ []) (comma ∷ []) whole (unmarked ts)) ts (joined_wholes (open_paren ∷ []) (comma ∷ []) (unmarked ts)) k) } }
 
 pub access_at : {r : Bool} {u : ℕ} (x y : Tree) (v d : ℕ) (t : List ℕ) → At 7 r false u x → Fits whole y → At 7 r false u (top 0 (labelled kinds.ACCESS v d t) (x also alone y))
 unfolding layout layouts
@@ -193,9 +192,9 @@ statements_met v w (stands k a m no_more) h = met_tree ((w then statement a.kind
 statements_met v w (stands k a m (stands j b n ts)) h =
     met_tree (statements v w (unmarked (stands k a m (stands j b n ts)))).slots k a m (stands j b n ts) h.0 (statements_met v (between a.kind) (stands j b n ts) h.1)
 
-pub block_at : (v d : ℕ) (t : List ℕ) (m : Marked) → Each Stated m → At 7 false false open-brace (top 0 (labelled kinds.BLOCK v d t) m)
+pub block_at : (v d : ℕ) (t : List ℕ) (m : Marked) → Each Stated m → At 7 false false open_brace (top 0 (labelled kinds.BLOCK v d t) m)
 unfolding layout layouts
-block_at v d t m h = record { fits = λ c g. record { serves = not_needs c (labelled kinds.BLOCK v d t) (unmarked m) g.level (λ z. absurd z) (λ z. absurd z) g.first; met = statements_met v (open-brace ∷ []) m h } }
+block_at v d t m h = record { fits = λ c g. record { serves = not_needs c (labelled kinds.BLOCK v d t) (unmarked m) g.level (λ z. absurd z) (λ z. absurd z) g.first; met = statements_met v (open_brace ∷ []) m h } }
 
 in_head : {w : ℕ} {x : Tree} → At 0 false true w x → Fits head x
 in_head h = h.fits head (record { level = omega arith; records = λ t. absurd t; path = λ t. tt; first = tt; word = tt })
@@ -229,23 +228,23 @@ arms_met w (stands k a m ts) h = met_tree (arms w (unmarked (stands k a m ts))) 
 
 pub match_at : {w : ℕ} (x : Tree) (ts : Marked) (v d : ℕ) (t : List ℕ) → At 0 false true w x → Each Armed ts → At 7 false false 'match' (top 0 (labelled kinds.MATCH v d t) (x also ts))
 unfolding layout layouts unmarked
-match_at x ts v d t h k = record { fits = λ c g. record { serves = not_needs c (labelled kinds.MATCH v d t) (unmarked (x also ts)) g.level (λ z. absurd z) (λ z. absurd z) g.first; met = met_first (layout c (labelled kinds.MATCH v d t) (unmarked (x also ts))).slots x ts (in_head h) (arms_met (open-brace ∷ []) ts k) } }
+match_at x ts v d t h k = record { fits = λ c g. record { serves = not_needs c (labelled kinds.MATCH v d t) (unmarked (x also ts)) g.level (λ z. absurd z) (λ z. absurd z) g.first; met = met_first (layout c (labelled kinds.MATCH v d t) (unmarked (x also ts))).slots x ts (in_head h) (arms_met (open_brace ∷ []) ts k) } }
 
 -- an arm's body: a block; or an expr that doesn't begin with `{`
 abbrev pub Body : Tree → Type 0
-Body x = Fits (cond (eqb x.label.kind kinds.BLOCK) whole (asks 0 true (open-brace ∷ []))) x
+Body x = Fits (cond (eqb x.label.kind kinds.BLOCK) whole (asks 0 true (open_brace ∷ []))) x
 
-pub body_at : {u : ℕ} {x : Tree} → T (not (one_of u (open-brace ∷ []))) → At 0 true true u x → Body x
+pub body_at : {u : ℕ} {x : Tree} → T (not (one_of u (open_brace ∷ []))) → At 0 true true u x → Body x
 body_at {u} {x} f h = go (eqb x.label.kind kinds.BLOCK)
   where
-    go : (b : Bool) → Fits (cond b whole (asks 0 true (open-brace ∷ []))) x
+    go : (b : Bool) → Fits (cond b whole (asks 0 true (open_brace ∷ []))) x
     go true = at_whole h
-    go false = h.fits (asks 0 true (open-brace ∷ [])) (record { level = omega arith; records = λ t. tt; path = λ t. tt; first = f; word = tt })
+    go false = h.fits (asks 0 true (open_brace ∷ [])) (record { level = omega arith; records = λ t. tt; path = λ t. tt; first = f; word = tt })
 
 pub body_block : (x : Tree) → T (eqb x.label.kind kinds.BLOCK) → Fits whole x → Body x
 body_block x f h = go (eqb x.label.kind kinds.BLOCK) f
   where
-    go : (b : Bool) → T b → Fits (cond b whole (asks 0 true (open-brace ∷ []))) x
+    go : (b : Bool) → T b → Fits (cond b whole (asks 0 true (open_brace ∷ []))) x
     go true t = h
     go false t = absurd t
 

@@ -5,10 +5,10 @@ use mathlib.Core.Bool.{Bool, true, false, not, ◌&&◌, ◌||◌, cond}
 use mathlib.Core.Logic.{inl, inr}
 use Prim.Native.Nat.{ℕ, suc}
 use lib.Dec.{T, eqb, eqb→eq}
-use Rattle.rows.specs.Kinds.{kinds}
-use Rattle.grammar.specs.Words.{words}
+use Rattle.rows.specs.Kinds as kinds
+use Rattle.grammar.specs.Words.{open_brace}
 use Rattle.grammar.specs.Grammar.{same, Symbol, token, phrase, unless, note, left_side, text, Token, Parts, end, node, mark, one_of}
-use Rattle.grammar.specs.Kinds.{records, no_records, phrases}
+use Rattle.grammar.specs.Kinds.{records, no_records, NAME, IMPORT, IMPORTED, PATH, BLOCK, STATEMENTS, STATEMENT, AFTER_FOUR, AFTER_EXPR, LET, LITERAL, F_STRING, PARENS, BRACES, BRACES_INSIDE, EXPRS, EXPRS_MORE, FOUR, ELSE, ELSE_PART, ELSE_IF, ARMS, ARM, ARM_BODY, ARM_NEXT, ARM_COMMA, GUARD, PATTERN, VARIANT_NAMES, EXPR, RETURNED, ASSIGNED, BINARY, OR_MORE, AND, AND_MORE, COMPARE, COMPARE_MORE, SUM, SUM_MORE, PRODUCT, PRODUCT_MORE, OPERAND, POSTFIX, AFTER_PATH}
 use Rattle.grammar.specs.Table.{rest_kinds, literal_row}
 use Rattle.grammar.specs.Rows.{Item, count, sizes, starts, ends, sign_of, detail_for, row_of}
 use Rattle.grammar.specs.Language.{roto}
@@ -21,8 +21,6 @@ use Rattle.forests.proofs.Peeked.{All, all_end, all_token, all_phrase, all_unles
 use Rattle.forests.proofs.Places.{top, Fits, Each, one_of_each, ordinary}
 use Rattle.forests.proofs.Stands.{At, at_whole, Stated, Armed, ordinary_at, literal_kinds}
 use Rattle.forests.proofs.Claims.{bough, Leaves, Makes, More, Adds, Wholly, Keeps, Returned, Guarded, Ready, on_rest, on_leaf, makes_from, leaves_made, makes_row, leaves_as, leaves_each, each_append, wholes_pair, adds_keeps, adds_each, keeps_token, keeps_end, keeps_leaf, keeps_part, keeps_row, keeps_own, keeps_rest}
-open words use {open-brace}
-open phrases use {NAME, IMPORT, IMPORTED, PATH, BLOCK, STATEMENTS, STATEMENT, AFTER-FOUR, AFTER-EXPR, LET, LITERAL, F-STRING, PARENS, BRACES, BRACES-INSIDE, EXPRS, EXPRS-MORE, FOUR, ELSE, ELSE-PART, ELSE-IF, ARMS, ARM, ARM-BODY, ARM-NEXT, ARM-COMMA, GUARD, PATTERN, VARIANT-NAMES, EXPR, RETURNED, ASSIGNED, BINARY, OR-MORE, AND, AND-MORE, COMPARE, COMPARE-MORE, SUM, SUM-MORE, PRODUCT, PRODUCT-MORE, OPERAND, POSTFIX, AFTER-PATH}
 
 pub data Claim : Type 0 where
   keeps adds states arms_more armed paired four block inside guard body variant : Claim
@@ -41,15 +39,15 @@ n is c = record { kind = n; claim = c }
 abbrev pub expr_claims : Bool → List Entry → List Entry
 expr_claims r rest =
     EXPR r is expr 0 r true ∷ BINARY r is expr 1 r true ∷ AND r is expr 2 r true ∷ COMPARE r is expr 3 r true ∷ SUM r is expr 4 r true ∷ PRODUCT r is expr 5 r true ∷ OPERAND r is expr 6 r true ∷
-    RETURNED r is returned r ∷ ASSIGNED r is more 1 0 r true ∷ OR-MORE r is more 1 1 r true ∷ AND-MORE r is more 2 2 r true ∷ COMPARE-MORE r is more 4 3 r true ∷ SUM-MORE r is more 4 4 r true ∷ PRODUCT-MORE r is more 5 5 r true ∷
-    POSTFIX r is more 7 7 r false ∷ AFTER-PATH r is more 7 7 r true ∷ rest
+    RETURNED r is returned r ∷ ASSIGNED r is more 1 0 r true ∷ OR_MORE r is more 1 1 r true ∷ AND_MORE r is more 2 2 r true ∷ COMPARE_MORE r is more 4 3 r true ∷ SUM_MORE r is more 4 4 r true ∷ PRODUCT_MORE r is more 5 5 r true ∷
+    POSTFIX r is more 7 7 r false ∷ AFTER_PATH r is more 7 7 r true ∷ rest
 
 abbrev pub claims : List Entry
 claims =
-    NAME is single false ∷ LET is single false ∷ IMPORT is single false ∷ IMPORTED is single false ∷ PATTERN is single false ∷ LITERAL is single false ∷ F-STRING is single false ∷ PATH is single true ∷
-    PARENS is paired ∷ FOUR is four ∷ ELSE-IF is four ∷ BLOCK is block ∷ BRACES is expr 7 true false ∷ BRACES-INSIDE is inside ∷
-    EXPRS is adds ∷ EXPRS-MORE is adds ∷ ELSE is adds ∷ ELSE-PART is adds ∷ STATEMENTS is states ∷ STATEMENT is states ∷ AFTER-FOUR is states ∷ AFTER-EXPR is states ∷
-    ARMS is armed ∷ ARM is armed ∷ ARM-BODY is body ∷ ARM-NEXT is arms_more ∷ ARM-COMMA is arms_more ∷ GUARD is guard ∷ VARIANT-NAMES is variant ∷
+    NAME is single false ∷ LET is single false ∷ IMPORT is single false ∷ IMPORTED is single false ∷ PATTERN is single false ∷ LITERAL is single false ∷ F_STRING is single false ∷ PATH is single true ∷
+    PARENS is paired ∷ FOUR is four ∷ ELSE_IF is four ∷ BLOCK is block ∷ BRACES is expr 7 true false ∷ BRACES_INSIDE is inside ∷
+    EXPRS is adds ∷ EXPRS_MORE is adds ∷ ELSE is adds ∷ ELSE_PART is adds ∷ STATEMENTS is states ∷ STATEMENT is states ∷ AFTER_FOUR is states ∷ AFTER_EXPR is states ∷
+    ARMS is armed ∷ ARM is armed ∷ ARM_BODY is body ∷ ARM_NEXT is arms_more ∷ ARM_COMMA is arms_more ∷ GUARD is guard ∷ VARIANT_NAMES is variant ∷
     expr_claims records (expr_claims no_records [])
 
 -- all other kinds leave trees that are asked for nothing
@@ -74,7 +72,7 @@ module _ (s : List ℕ) where
   Holds paired u p = Leaves s (Fits whole) p
   Holds four u p = Leaves s (λ x. At 7 false false u x × T (is_four x.label.kind)) p
   Holds block u p = Leaves s (λ x. At 7 false false u x × T (eqb x.label.kind kinds.BLOCK)) p
-  Holds inside u p = (x : Token) (part : ℕ) → Makes s (At 7 true false open-brace) (word x ∷ []) part p
+  Holds inside u p = (x : Token) (part : ℕ) → Makes s (At 7 true false open_brace) (word x ∷ []) part p
   Holds guard u p = (xs : List Twig) (part : ℕ) → Guarded s xs part p
   Holds body u p = (xs : List Twig) (part : ℕ) → Ready s xs part → Each Armed (trees_in s (plant s p (bough xs part)).twigs)
   Holds variant u p = (xs : List Twig) (part : ℕ) → Wholly s xs → Makes s (At 7 false false 0) xs part p

@@ -1,13 +1,12 @@
 -- The trees that a reading leaves, as `write` leaves rows (grammar/specs/Rows.antt): each with its label, the trees under it, and the number of
 -- pairs of parentheses that stand round it.
 use Rattle.std.specs.Prelude.{List, [], ◌∷◌, ◌++◌, Bool, true, false, cond, ℕ, suc, eqb}
-use Rattle.rows.specs.Kinds.{kinds}
+use Rattle.rows.specs.Kinds as kinds
 use Rattle.grammar.specs.Grammar.{Token, Parts, end, leaf, node, mark, one_of}
-use Rattle.grammar.specs.Kinds.{phrases}
+use Rattle.grammar.specs.Kinds.{PARENS}
 use Rattle.grammar.specs.Table.{rest_kinds}
 use Rattle.grammar.specs.Rows.{Row, Item, own, child, row_of, is_text, text_row}
 use Rattle.canon.specs.Trees.{Label, Forest, none, tree, label}
-open phrases use {PARENS}
 
 -- Trees in a row: the pairs round the first, its label, the trees under it, the trees after it.
 pub data Marked : Type 0 where

@@ -43,22 +43,14 @@ def split(items):
     return parts, now
 
 
-def fields(module, record):
-    """The fields of a record and what stands behind each."""
-    line = re.search(rf"^{record} = record \{{ (.*) \}}$", read(module), re.M).group(1)
-    return [field.split(" = ", 1) for field in line.split("; ")]
-
-
-WORDS, GROUPS = {n: int(v) for n, v in fields("Words", "words")}, {}
+WORDS, GROUPS = {}, {}
+for n, v in re.findall(r"^(\S+) = (\d+)$", read("Words"), re.M):
+    WORDS[n] = int(v)
 for n, v in re.findall(r"^(\S+) = (\S+ ∷ .*\[\])$", read("Words"), re.M):
     GROUPS[n] = [WORDS[w] for w in v.split(" ∷ ")[:-1]]
 KINDS = {}
-for n, v in fields("Kinds", "phrases"):
-    if v.isdigit():
-        KINDS[(n, "")] = int(v)
-    else:
-        yes, no = re.fullmatch(r"λ r\. cond r (\d+) (\d+)", v).groups()
-        KINDS[(n, "true")], KINDS[(n, "false")] = int(yes), int(no)
+for n, b, v in re.findall(r"^(\S+)( true| false)? = (\d+)$", read("Kinds"), re.M):
+    KINDS[(n, b.strip())] = int(v)
 
 
 def kind(x, flag):

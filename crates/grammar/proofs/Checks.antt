@@ -3,8 +3,8 @@ use mathlib.Core.List.{List, [], ◌∷◌}
 use mathlib.Core.Bool.{Bool, true, false, not, ◌&&◌}
 use Prim.Native.Nat.{ℕ}
 use lib.Dec.{T}
-use Rattle.grammar.specs.Words.{words}
-use Rattle.grammar.specs.Kinds.{phrases}
+use Rattle.grammar.specs.Words.{the_end, f_quote}
+use Rattle.grammar.specs.Kinds.{HOLE}
 use Rattle.grammar.specs.Grammar.{Rule, one_of}
 use Rattle.grammar.specs.Choice.{see}
 use Rattle.grammar.specs.Language.{roto, start}
@@ -14,8 +14,6 @@ use Rattle.grammar.proofs.Decided.{all_grounded}
 use Rattle.grammar.proofs.Barred.{all_steady, eats}
 use Rattle.grammar.proofs.Viable.{all_live, grows, tails}
 use Rattle.grammar.proofs.Quiet.{tame, all_tame}
-open words use {the_end, f-quote}
-open phrases use {HOLE}
 
 -- no two rules are of one kind
 abbrev kinds : List Rule → List ℕ
@@ -76,12 +74,12 @@ goal_grows false true = tt
 goal_grows false false = tt
 
 -- text stands behind `f"` alone
-pub roto_tame : (b : Bool) → T (all_tame f-quote (HOLE ∷ []) (roto b).rules)
+pub roto_tame : (b : Bool) → T (all_tame f_quote (HOLE ∷ []) (roto b).rules)
 unfolding roto
 roto_tame true = tt
 roto_tame false = tt
 
-pub goal_tame : (c : Bool) → T (tame f-quote (HOLE ∷ []) (start c))
+pub goal_tame : (c : Bool) → T (tame f_quote (HOLE ∷ []) (start c))
 goal_tame true = tt
 goal_tame false = tt
 

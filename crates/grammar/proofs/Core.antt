@@ -7,7 +7,7 @@ use mathlib.Core.Logic.{◌⊎◌, inl, inr}
 use Prim.Native.Nat.{ℕ}
 use lib.Dec.{T, eqb, eqb→eq, eqb_refl, T_not}
 use native.Mathlib.Omega.{arith}
-use Rattle.grammar.specs.Words.{words}
+use Rattle.grammar.specs.Words.{the_end, no_token}
 use Rattle.grammar.specs.Grammar.{Ask, has_value, same, Look, found, over, wrong, Stream, Symbol, phrase, left_side, text, Token, Parts, mark, Language, Pair, View, one, pair, one_of, alternatives, In, here, there}
 use Rattle.grammar.specs.Limits.{Counts, after, inside}
 use Rattle.grammar.specs.Choice.{eqv, among, flag, two, base, firsts, follows, see, minus, sees, front, fronts, first, choose, chosen, or_else, spare, idle, hollow, hollows, only}
@@ -16,7 +16,6 @@ use Rattle.grammar.specs.Runs.{viewed, view, may, RunBy}
 use Rattle.grammar.proofs.Bools.{and_l, and_r, or_l, or_r, or_cases, T→eq, F→eq, both}
 use Rattle.grammar.proofs.Pass.{rule_passes}
 use Rattle.grammar.proofs.Good.{unsigned, subset, apart, blind, singles, closed, alone, good, all_good}
-open words use {the_end, no_token}
 
 pub eqv→eq : (v w : View) → T (eqv v w) → v ≡ w
 eqv→eq (one a) (one b) t = ap one (eqb→eq a b t)

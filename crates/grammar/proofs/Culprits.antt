@@ -11,8 +11,8 @@ use Rattle.grammar.specs.Grammar.{Ask, plain, has_value, opens_bracket, closes_b
 use Rattle.grammar.specs.Limits.{Counts, zeros, kept}
 use Rattle.grammar.specs.Runs.{Run}
 use Rattle.grammar.specs.Refusals.{Why, want, amiss, past, barred, left, unread, ill, Refusal, said, ask_number, torn, Stops}
-use Rattle.grammar.specs.Words.{words}
-use Rattle.grammar.specs.Kinds.{phrases}
+use Rattle.grammar.specs.Words.{f_quote, text_then_hole}
+use Rattle.grammar.specs.Kinds.{HOLE}
 use Rattle.grammar.specs.Language.{roto, start}
 use Rattle.grammar.specs.Answers.{Answer, refused, Answers, accepts, stops, leaves}
 use Rattle.grammar.specs.Culprit.{lists, textless, Clean, FreeText, Before, before_here, before_there, With, with_here, with_there, Culprit}
@@ -24,10 +24,8 @@ use Rattle.grammar.proofs.Tested.{taken}
 use Rattle.grammar.proofs.Quiet.{not_unread, run_quiet, stop_quiet}
 use Rattle.grammar.proofs.Checks.{roto_good, goal_closed, roto_steady, roto_live, goal_tails, goal_grows, roto_tame, goal_tame, roto_full}
 use Rattle.grammar.proofs.Demand.{last, at_end, ask_7_or_9}
-open words use {f-quote, text-then-hole}
-open phrases use {HOLE}
 
-marked : (tests : Bool) → (roto tests).hole ≡ text-then-hole
+marked : (tests : Bool) → (roto tests).hole ≡ text_then_hole
 unfolding roto
 marked tests = refl
 
@@ -114,15 +112,15 @@ module _ (S : Stream) (tests tree : Bool) (ahead : S.Place → ℕ) (tokens_take
       refuses : Refuses i place why
       says_so : Said (S.look place) why r
 
-    met : {i : S.Place} {a : Answer} (r : Refusal) → Clean S f-quote i → Answers S tests tree len i a → a ≡ refused r → Met i r
+    met : {i : S.Place} {a : Answer} (r : Refusal) → Clean S f_quote i → Answers S tests tree len i a → a ≡ refused r → Met i r
     met r c (accepts x) q = let z : ◌≡◌ {A = ℕ} 0 1 = cc in absurd (omega arith)
     met r c (stops {z = z} {y = y} f) q =
         let e : said len (S.look z) y ≡ r = cc in
-        let u = stop_quiet f-quote (HOLE ∷ []) (roto tests) (roto_tame tests) S f (goal_tame tree) c in
+        let u = stop_quiet f_quote (HOLE ∷ []) (roto tests) (roto_tame tests) S f (goal_tame tree) c in
         record { place = z; why = y; refuses = at_stop u.0; says_so = subst (Said (S.look z) y) e (says (S.look z) y u.1) }
     met r c (leaves {r = z} t n) q =
         let e : said len (S.look z) (want []) ≡ r = cc in
-        let u = run_quiet f-quote (HOLE ∷ []) (roto tests) (roto_tame tests) S t (goal_tame tree) c in
+        let u = run_quiet f_quote (HOLE ∷ []) (roto tests) (roto_tame tests) S t (goal_tame tree) c in
         record { place = z; why = want []; refuses = at_left u.0; says_so = subst (Said (S.look z) (want [])) e (says (S.look z) (want []) tt) }
 
     -- the token at which a refusal is
@@ -153,7 +151,7 @@ module _ (S : Stream) (tests tree : Bool) (ahead : S.Place → ℕ) (tokens_take
     six (end_11 e) h f = absurd (omega arith)
     six {z = z} (none_4 {n = n} {a = a} {b = b} e) h f = let k = scans z n a b e in absurd (omega arith)
 
-    pub refusal_6 : {i : S.Place} {a : Answer} (r : Refusal) → Clean S f-quote i → Answers S tests tree len i a → a ≡ refused r → r.number ≡ 6 → Wrong i r
+    pub refusal_6 : {i : S.Place} {a : Answer} (r : Refusal) → Clean S f_quote i → Answers S tests tree len i a → a ≡ refused r → r.number ≡ 6 → Wrong i r
     refusal_6 r c x q h = let m = met r c x q in six m.says_so h m.refuses
 
     -- 11 comes at the end, and 4 where no token starts
@@ -184,7 +182,7 @@ module _ (S : Stream) (tests tree : Bool) (ahead : S.Place → ℕ) (tokens_take
     ends_at {r = r} (none_4 e) o = subst (Ends r) (sym e) ends_wrong
 
     -- all the tokens of the source, or all before what is none, begin some text
-    pub refusal_4_11 : {i : S.Place} {a : Answer} (r : Refusal) → Clean S f-quote i → Answers S tests tree len i a → a ≡ refused r → (r.number ≡ 4) ⊎ (r.number ≡ 11) → (z : S.Place) × Ends r (S.look z) × Begun (Before S z i)
+    pub refusal_4_11 : {i : S.Place} {a : Answer} (r : Refusal) → Clean S f_quote i → Answers S tests tree len i a → a ≡ refused r → (r.number ≡ 4) ⊎ (r.number ≡ 11) → (z : S.Place) × Ends r (S.look z) × Begun (Before S z i)
     refusal_4_11 r c x q o = let m = met r c x q in (m.place, ends_at m.says_so o, viable_at m.refuses)
 
     valueless : (g : Ask) (d : Counts) (x : Token) → T (not (kept g d x)) → ask_number g ≡ 7 → x.holds ≡ false
@@ -220,5 +218,5 @@ module _ (S : Stream) (tests tree : Bool) (ahead : S.Place → ℕ) (tokens_take
     fails_at (end_11 e) o f = elim o [ inl h ↦ absurd (omega arith) | inr h ↦ absurd (omega arith) ]
     fails_at {z = z} (none_4 {n = n} {a = a} {b = b} e) o f = let k = scans z n a b e in elim o [ inl h ↦ absurd (omega arith) | inr h ↦ absurd (omega arith) ]
 
-    pub refusal_7_9 : {i : S.Place} {a : Answer} (r : Refusal) → Clean S f-quote i → Answers S tests tree len i a → a ≡ refused r → (r.number ≡ 7) ⊎ (r.number ≡ 9) → Failing i r
+    pub refusal_7_9 : {i : S.Place} {a : Answer} (r : Refusal) → Clean S f_quote i → Answers S tests tree len i a → a ≡ refused r → (r.number ≡ 7) ⊎ (r.number ≡ 9) → Failing i r
     refusal_7_9 r c x q o = let m = met r c x q in fails_at m.says_so o m.refuses

@@ -7,7 +7,7 @@ use Prim.Native.Nat.{ℕ, ◌+◌, ◌*◌, ◌≤◌, ◌<◌}
 use lib.Dec.{T, eqb, leb}
 use lib.ListN.{length}
 use native.Mathlib.Omega.{arith}
-use Rattle.grammar.specs.Words.{words}
+use Rattle.grammar.specs.Words.{the_end}
 use Rattle.grammar.specs.Grammar.{Ask, plain, has_value, opens_bracket, closes_bracket, is_prefix, is_head, is_else_if, Token, Look, found, over, wrong, Stream, Parts, Language, View}
 use Rattle.grammar.specs.Limits.{zeros}
 use Rattle.grammar.specs.Choice.{eqv, among, see}
@@ -23,7 +23,6 @@ use Rattle.grammar.proofs.Refused.{not_both, one_stop}
 use Rattle.grammar.proofs.Checks.{roto_good, goal_closed, roto_light, roto_grounded, roto_full}
 use Rattle.grammar.proofs.Decided.{Ran, Decided, decided}
 use Rattle.grammar.proofs.Count.{tree_nodes, rows_nodes, nodes_bound, up}
-open words use {the_end}
 
 abbrev pub last : Language → List View
 last l = see l the_end 0 ∷ []

@@ -5,12 +5,11 @@ use mathlib.Core.Bool.{Bool, true, false, not, ◌&&◌, ◌||◌, cond}
 use mathlib.Core.Logic.{inl, inr}
 use Prim.Native.Nat.{ℕ}
 use lib.Dec.{T, eqb, eqb→eq, T_not}
-use Rattle.grammar.specs.Words.{words}
+use Rattle.grammar.specs.Words.{text_then_hole, last_text}
 use Rattle.grammar.specs.Grammar.{Symbol, Token, Parts, end, leaf, node, mark, one_of}
 use Rattle.grammar.specs.Table.{rest_kinds}
 use Rattle.grammar.specs.Rows.{Row, own, child, Draft, children_of, add_row, row_of, take_note, is_text, text_row, add_token, enter, leave, write, blank}
 use Rattle.grammar.proofs.Bools.{and_l, and_r, or_cases, F→eq}
-open words use {text-then-hole, last-text}
 
 -- rows in front
 abbrev pub on : List Row → Draft → Draft
@@ -81,7 +80,7 @@ write_two n s p q a = refl
 
 -- no word of a piece of text is among these
 abbrev pub no_text : List ℕ → Bool
-no_text w = not (one_of text-then-hole w) && not (one_of last-text w)
+no_text w = not (one_of text_then_hole w) && not (one_of last_text w)
 
 pub plain_word : (x : Token) (w : List ℕ) → T (no_text w) → T (one_of x.word w) → is_text x ≡ false
 plain_word x w t m = F→eq (is_text x) none_is
@@ -90,15 +89,15 @@ plain_word x w t m = F→eq (is_text x) none_is
     at c h e = T_not (one_of c w) h (subst (λ (y : ℕ). T (one_of y w)) (eqb→eq x.word c e) m)
 
     a : Bool
-    a = not (one_of text-then-hole w)
+    a = not (one_of text_then_hole w)
 
     b : Bool
-    b = not (one_of last-text w)
+    b = not (one_of last_text w)
 
     none_is : T (is_text x) → ⊥
-    none_is h = elim (or_cases (eqb x.word text-then-hole) (eqb x.word last-text || false) h) [
-      | inl e ↦ at text-then-hole (and_l a b t) e
-      | inr k ↦ elim (or_cases (eqb x.word last-text) false k) [ inl e ↦ at last-text (and_r a b t) e | inr z ↦ z ]
+    none_is h = elim (or_cases (eqb x.word text_then_hole) (eqb x.word last_text || false) h) [
+      | inl e ↦ at text_then_hole (and_l a b t) e
+      | inr k ↦ elim (or_cases (eqb x.word last_text) false k) [ inl e ↦ at last_text (and_r a b t) e | inr z ↦ z ]
     ]
 
 -- a token that is no piece of text is a word of the phrase's own

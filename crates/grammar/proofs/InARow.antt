@@ -5,7 +5,7 @@ use mathlib.Core.Bool.{Bool, true, false, not, ◌&&◌, ◌||◌, cond}
 use mathlib.Core.Logic.{◌⊎◌, inl, inr}
 use Prim.Native.Nat.{ℕ, suc}
 use lib.Dec.{T, eqb}
-use Rattle.grammar.specs.Kinds.{records, no_records, phrases}
+use Rattle.grammar.specs.Kinds.{records, no_records, DECLARATIONS, DECLARATION, PARAMS, RESULT, TYPED_NAMES_MORE, IMPORT, IMPORTPATH_REST, IMPORTPATHS_MORE, PATH_REST, TYPE_MARKS, TYPE_BRACKETS, TYPES_MORE, BLOCK, STATEMENTS, STATEMENT, AFTER_FOUR, AFTER_EXPR, LET, LET_TYPE, BRACES_INSIDE, FIELDS_MORE, EXPRS_MORE, FOUR, ELSE, ELSE_PART, ELSE_IF, ARMS, ARM, ARM_NEXT, ARM_COMMA, GUARD, PATTERN, VARIANT, VARIANT_NAMES, NAMES_MORE, ASSIGNED, OR_MORE, AND_MORE, COMPARE_MORE, SUM_MORE, PRODUCT_MORE, POSTFIX, AFTER_PATH}
 use Rattle.grammar.specs.Grammar.{Ask, plain, has_value, opens_bracket, closes_bracket, is_prefix, is_head, is_else_if, Scope, same, body, Symbol, token, phrase, unless, note, left_side, text, Rule, Token, Stream, Parts, Language, one_of}
 use Rattle.grammar.specs.Limits.{Counts, zeros, after, inside}
 use Rattle.grammar.specs.Readings.{ReadingBy, reads_end, reads_token, reads_phrase, reads_unless, reads_note, reads_side, reads_text}
@@ -13,21 +13,20 @@ use Rattle.grammar.specs.InARow.{row_after, Asked, row_behind, InARow}
 use Rattle.grammar.specs.Language.{roto, start}
 use Rattle.grammar.proofs.Bools.{and_l, and_r, or_cases, implied}
 use Rattle.grammar.proofs.Pass.{each_passes, passes_at}
-open phrases use {DECLARATIONS, DECLARATION, PARAMS, RESULT, TYPED-NAMES-MORE, IMPORT, IMPORTPATH-REST, IMPORTPATHS-MORE, PATH-REST, TYPE-MARKS, TYPE-BRACKETS, TYPES-MORE, BLOCK, STATEMENTS, STATEMENT, AFTER-FOUR, AFTER-EXPR, LET, LET-TYPE, BRACES-INSIDE, FIELDS-MORE, EXPRS-MORE, FOUR, ELSE, ELSE-PART, ELSE-IF, ARMS, ARM, ARM-NEXT, ARM-COMMA, GUARD, PATTERN, VARIANT, VARIANT-NAMES, NAMES-MORE, ASSIGNED, OR-MORE, AND-MORE, COMPARE-MORE, SUM-MORE, PRODUCT-MORE, POSTFIX, AFTER-PATH}
 
 -- kinds that begin with no prefix; that stand only where no prefix is counted and none stands; behind which none stands
 abbrev tails : List ℕ
 tails =
-    DECLARATIONS ∷ DECLARATION ∷ PARAMS ∷ RESULT ∷ TYPED-NAMES-MORE ∷ IMPORT ∷ IMPORTPATH-REST ∷ IMPORTPATHS-MORE ∷ PATH-REST ∷ TYPE-MARKS ∷ TYPE-BRACKETS ∷ TYPES-MORE ∷
-    BLOCK ∷ AFTER-EXPR ∷ LET-TYPE ∷ FIELDS-MORE ∷ EXPRS-MORE ∷ ARMS ∷ ARM ∷ ARM-NEXT ∷ ARM-COMMA ∷ GUARD ∷ PATTERN ∷ VARIANT ∷ VARIANT-NAMES ∷ NAMES-MORE ∷
-    ASSIGNED records ∷ OR-MORE records ∷ AND-MORE records ∷ COMPARE-MORE records ∷ SUM-MORE records ∷ PRODUCT-MORE records ∷ POSTFIX records ∷ AFTER-PATH records ∷
-    ASSIGNED no_records ∷ OR-MORE no_records ∷ AND-MORE no_records ∷ COMPARE-MORE no_records ∷ SUM-MORE no_records ∷ PRODUCT-MORE no_records ∷ POSTFIX no_records ∷ AFTER-PATH no_records ∷ []
+    DECLARATIONS ∷ DECLARATION ∷ PARAMS ∷ RESULT ∷ TYPED_NAMES_MORE ∷ IMPORT ∷ IMPORTPATH_REST ∷ IMPORTPATHS_MORE ∷ PATH_REST ∷ TYPE_MARKS ∷ TYPE_BRACKETS ∷ TYPES_MORE ∷
+    BLOCK ∷ AFTER_EXPR ∷ LET_TYPE ∷ FIELDS_MORE ∷ EXPRS_MORE ∷ ARMS ∷ ARM ∷ ARM_NEXT ∷ ARM_COMMA ∷ GUARD ∷ PATTERN ∷ VARIANT ∷ VARIANT_NAMES ∷ NAMES_MORE ∷
+    ASSIGNED records ∷ OR_MORE records ∷ AND_MORE records ∷ COMPARE_MORE records ∷ SUM_MORE records ∷ PRODUCT_MORE records ∷ POSTFIX records ∷ AFTER_PATH records ∷
+    ASSIGNED no_records ∷ OR_MORE no_records ∷ AND_MORE no_records ∷ COMPARE_MORE no_records ∷ SUM_MORE no_records ∷ PRODUCT_MORE no_records ∷ POSTFIX no_records ∷ AFTER_PATH no_records ∷ []
 
 abbrev fresh : List ℕ
-fresh = STATEMENTS ∷ STATEMENT ∷ AFTER-FOUR ∷ ELSE ∷ BRACES-INSIDE ∷ []
+fresh = STATEMENTS ∷ STATEMENT ∷ AFTER_FOUR ∷ ELSE ∷ BRACES_INSIDE ∷ []
 
 abbrev ends : List ℕ
-ends = BLOCK ∷ FOUR ∷ IMPORT ∷ LET ∷ ELSE ∷ ELSE-PART ∷ ELSE-IF ∷ []
+ends = BLOCK ∷ FOUR ∷ IMPORT ∷ LET ∷ ELSE ∷ ELSE_PART ∷ ELSE_IF ∷ []
 
 -- what is known at a place: none is counted; none stands there; as many are counted as stand there
 record Known : Type 0 where

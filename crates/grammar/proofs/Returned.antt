@@ -8,12 +8,11 @@ use Prim.Native.Nat.{ℕ}
 use lib.Dec.{T}
 use native.Mathlib.Omega.{arith}
 use Rattle.grammar.specs.Grammar.{Symbol, View, Stream}
-use Rattle.grammar.specs.Kinds.{phrases}
+use Rattle.grammar.specs.Kinds.{EXPR, RETURNED}
 use Rattle.grammar.specs.Table.{a, nothing}
 use Rattle.grammar.specs.Choice.{or_else, among, firsts, chosen}
 use Rattle.grammar.specs.Runs.{view, Picks}
 use Rattle.grammar.specs.Language.{roto}
-open phrases use {EXPR, RETURNED}
 
 taken_first : (b : Bool) (x : Symbol) (s : List Symbol) (o o' : Option (List Symbol)) → or_else (cond b (some (x ∷ s)) o) o' ≡ some [] → T (not b)
 taken_first true x s o o' e = let z : ◌≡◌ {A = ℕ} 0 1 = cc in absurd (omega arith)

@@ -4,7 +4,7 @@ use mathlib.Core.List.{List}
 use mathlib.Core.Bool.{Bool, true, false, not}
 use Prim.Native.Nat.{ℕ}
 use lib.Dec.{T}
-use Rattle.grammar.specs.Words.{words}
+use Rattle.grammar.specs.Words.{text_then_hole}
 use Rattle.grammar.specs.Grammar.{Stream, Symbol, Token, found, Parts, leaf, node, mark, Language, one_of}
 use Rattle.grammar.specs.Limits.{Counts, after, kept}
 use Rattle.grammar.specs.Readings.{word_of_lem, peek, reads_token, reads_phrase, reads_unless, reads_note, reads_side}
@@ -16,7 +16,6 @@ use Rattle.grammar.proofs.Good.{all_full}
 use Rattle.grammar.proofs.Core.{sound, chosen_in}
 use Rattle.grammar.proofs.Refused.{untorn}
 use Rattle.grammar.proofs.Viable.{Free, grows, tails, all_live, onto, upto_by, grown, firm_one, tails_one, graft, forked, tails_on}
-open words use {text-then-hole}
 
 -- a token, or a piece of text, fails its test
 abbrev pub tested : Why → Bool
@@ -46,7 +45,7 @@ Fails (left p) x = Unit {0}
 Fails unread x = Unit {0}
 Fails (ill y) x = Unit {0}
 
-module _ (l : Language) (live : T (all_live l l.rules)) (filling : T (all_full l l.rules)) (marked : l.hole ≡ text-then-hole) (S : Stream) (silent : (i : S.Place) → T (torn (S.piece i))) where
+module _ (l : Language) (live : T (all_live l l.rules)) (filling : T (all_full l l.rules)) (marked : l.hole ≡ text_then_hole) (S : Stream) (silent : (i : S.Place) → T (torn (S.piece i))) where
   with_peek : {i z : S.Place} {ts : List Token} → With S z i ts → peek S l i ≡ peek lists l ts
   with_peek (with_here e) = ap (word_of_lem S l) e
   with_peek (with_there e w) = ap (word_of_lem S l) e

@@ -9,12 +9,12 @@ use Prim.Native.Nat.{ℕ}
 use lib.Dec.{T, eqb, leb, ltb, ltb→lt, lt→ltb}
 use borrow.Author.Tests.{ne_eqb, eqb-true}
 use native.Mathlib.Omega.{arith}
-use Rattle.rows.specs.Kinds.{kinds}
+use Rattle.rows.specs.Kinds as kinds
 use Rattle.grammar.specs.Grammar.{Scope, same, Symbol, token, phrase, unless, note, left_side, text, Rule, Stream, Parts, View, one, pair, alternatives_in, alternatives, In, here, there}
 use Rattle.grammar.specs.Limits.{Counts, zeros, inside}
-use Rattle.grammar.specs.Words.{words}
+use Rattle.grammar.specs.Words.{'test'}
 use Rattle.grammar.specs.Table.{word, a, row, lists, declarations, paths, types, blocks, exprs, atoms, arms, rules}
-use Rattle.grammar.specs.Kinds.{records, no_records, phrases}
+use Rattle.grammar.specs.Kinds.{records, no_records, DECLARATION, NAME, BLOCK}
 use Rattle.grammar.specs.Language.{roto, start}
 use Rattle.grammar.specs.Choice.{base, follows, chosen_from, chosen}
 use Rattle.grammar.specs.Readings.{peek, Reading, reads_end, reads_token, reads_phrase, reads_unless, reads_note, reads_side, reads_text}
@@ -27,8 +27,6 @@ use Rattle.grammar.proofs.Bools.{and_l, and_r, or_cases, both}
 use Rattle.grammar.proofs.Pass.{each_passes, passes_at}
 use Rattle.grammar.proofs.Core.{base_view, chosen_in}
 use Rattle.grammar.proofs.Demand.{run_reads, text_runs, accepted_reading}
-open words use {'test'}
-open phrases use {DECLARATION, NAME, BLOCK}
 
 -- every kind named is one that stands below a declaration (the three above have the numbers 0, 1, 2)
 abbrev low : List Symbol → Bool

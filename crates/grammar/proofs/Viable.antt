@@ -7,7 +7,7 @@ use mathlib.Core.Logic.{◌⊎◌, inl, inr}
 use Prim.Native.Nat.{ℕ, suc, zero}
 use lib.Dec.{T, eqb, eqb_refl}
 use native.Mathlib.Omega.{arith}
-use Rattle.grammar.specs.Words.{words}
+use Rattle.grammar.specs.Words.{text_then_hole, last_text}
 use Rattle.grammar.specs.Grammar.{Ask, has_value, same, Stream, Symbol, token, phrase, unless, note, left_side, text, Rule, Token, found, Parts, end, leaf, node, mark, Language, one_of, alternatives, In, here, there}
 use Rattle.grammar.specs.Limits.{Counts, after, inside}
 use Rattle.grammar.specs.Readings.{word_of_lem, peek, Reads, reads_end, reads_token, reads_phrase, reads_unless, reads_note, reads_side, reads_text, Is, ReadingBy}
@@ -21,7 +21,6 @@ use Rattle.grammar.proofs.Good.{full, filled, all_full, full_filled}
 use Rattle.grammar.proofs.Core.{sound, chosen_in}
 use Rattle.grammar.proofs.Refused.{untorn}
 use Rattle.grammar.proofs.Barred.{given}
-open words use {text-then-hole, last-text}
 
 -- a token of a word
 abbrev pub token_of : ℕ → Token
@@ -136,7 +135,7 @@ module _ (l : Language) where
     peek_seq c (reads_side {q = q} b t h u) (inr e) = peek_seq (onto q c) t (inr (peek_seq c u (inr e)))
 
   -- `marked`: the word of a piece that a hole follows is the one before that of a last piece
-  module _ (live : T (all_live l.rules)) (filling : T (all_full l l.rules)) (marked : l.hole ≡ text-then-hole) where
+  module _ (live : T (all_live l.rules)) (filling : T (all_full l l.rules)) (marked : l.hole ≡ text_then_hole) where
     pub grown : (k : ℕ) (s : List Symbol) → T (grows k s) → Grown s
     unfolding grows
     grown zero s t = absurd t
@@ -152,8 +151,8 @@ module _ (l : Language) where
     grown (suc k) (unless w ∷ s) t = absurd t
     grown (suc k) (text n ∷ s) t =
         let g = grown k s t in
-        let h : eqb last-text l.hole ≡ false = ap (eqb last-text) marked in
-        record { part = leaf (token_of last-text) g.part; reads = λ d r. reads_text refl tt (subst (λ (b : Bool). Free (after has_value d) (cond b (phrase same n ∷ s) s) (onto g.part r) r g.part) (sym h) (g.reads (after has_value d) r)) }
+        let h : eqb last_text l.hole ≡ false = ap (eqb last_text) marked in
+        record { part = leaf (token_of last_text) g.part; reads = λ d r. reads_text refl tt (subst (λ (b : Bool). Free (after has_value d) (cond b (phrase same n ∷ s) s) (onto g.part r) r g.part) (sym h) (g.reads (after has_value d) r)) }
     grown (suc k) (note j ∷ s) t = let g = grown k s t in record { part = mark j g.part; reads = λ d r. reads_note (g.reads d r) }
     grown (suc k) (left_side n n₁ ∷ s) t =
         let x = given (short n) (λ a. grows k a) in

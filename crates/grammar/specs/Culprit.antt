@@ -1,12 +1,11 @@
 -- C-24: a refused token is the first that can't go there. "The tokens before it begin some text of the grammar, with limits
 -- and room set aside and literals taken as good, and with the named token added they begin none."
 use Rattle.std.specs.Prelude.{◌≡◌, List, [], ◌∷◌, Bool, true, cond, ℕ}
-use Rattle.grammar.specs.Words.{words}
+use Rattle.grammar.specs.Words.{text_then_hole, last_text}
 use Rattle.grammar.specs.Grammar.{Ask, Token, Look, found, over, Stream, Parts, one_of}
 use Rattle.grammar.specs.Limits.{Counts, zeros}
 use Rattle.grammar.specs.Readings.{ReadingBy}
 use Rattle.grammar.specs.Language.{roto, start}
-open words use {text-then-hole, last-text}
 
 -- A text is a list of tokens and, in strings with expressions inside (C-11), of pieces of text, which have words of their own.
 abbrev pub look_at : List Token → Look (List Token)
@@ -15,7 +14,7 @@ look_at (x ∷ ts) = found x ts
 
 abbrev pub piece_at : List Token → Look (List Token)
 piece_at [] = over
-piece_at (x ∷ ts) = cond (one_of x.word (text-then-hole ∷ last-text ∷ [])) (found x ts) over
+piece_at (x ∷ ts) = cond (one_of x.word (text_then_hole ∷ last_text ∷ [])) (found x ts) over
 
 abbrev pub lists : Stream
 lists = record { Place = List Token; look = look_at; piece = piece_at }

@@ -1,9 +1,8 @@
 -- What a source is under a grammar: its readings.
 use Rattle.std.specs.Prelude.{◌≡◌, List, [], ◌∷◌, Bool, true, not, cond, ℕ, T, eqb}
-use Rattle.grammar.specs.Words.{words}
+use Rattle.grammar.specs.Words.{the_end, no_token}
 use Rattle.grammar.specs.Grammar.{Ask, has_value, Scope, same, Symbol, token, phrase, unless, note, left_side, text, Token, Look, found, over, wrong, Stream, Parts, end, leaf, node, mark, Language, alternatives, In, one_of}
 use Rattle.grammar.specs.Limits.{Counts, zeros, after, inside, kept}
-open words use {the_end, no_token}
 
 module _ (S : Stream) (l : Language) where
   -- The word of what stands at a place.

@@ -1,12 +1,11 @@
--- The rows of a reading. "A row is six numbers: kind, start, end, children, value, detail. Children come before their parent,
--- left to right." C-14: "a seventh number to each row: how many rows its whole subtree has, itself included." The kinds have
--- names in rows/specs/Kinds.antt, the table says where each is made; here stands what a row holds.
+-- The rows of a reading. "A row is six numbers: kind, start, end, children, value, detail. Children come before their
+-- parent, left to right." C-14: "a seventh number to each row: how many rows its whole subtree has, itself included." The kinds have names in rows/specs/Kinds.antt, the table says where each is made; here stands
+-- what a row holds.
 use Rattle.std.specs.Prelude.{List, [], ◌∷◌, ◌++◌, Bool, true, false, cond, ℕ, suc, ◌+◌, eqb}
-use Rattle.rows.specs.Kinds.{kinds}
-use Rattle.grammar.specs.Words.{binary_signs, return_words, filter_words, words}
+use Rattle.rows.specs.Kinds as kinds
+use Rattle.grammar.specs.Words.{'+=', '-=', '*=', '/=', '%=', binary_signs, return_words, filter_words, text_then_hole, last_text}
 use Rattle.grammar.specs.Grammar.{Token, Parts, end, leaf, node, mark, one_of}
 use Rattle.grammar.specs.Table.{rest_kinds, literal_row}
-open words use {'+=', '-=', '*=', '/=', '%=', text-then-hole, last-text}
 
 pub record Row : Type 0 where
   pub kind : ℕ
@@ -124,7 +123,7 @@ take_note k a =
 -- A word; or a piece of text, which is a row if it has a byte (C-11: "47 for a text part, value its final byte count
 -- (empty ones give none)").
 abbrev pub is_text : Token → Bool
-is_text x = one_of x.word (text-then-hole ∷ last-text ∷ [])
+is_text x = one_of x.word (text_then_hole ∷ last_text ∷ [])
 
 abbrev pub text_row : Token → Row
 text_row x = record { kind = kinds.TEXT; start = x.start; end = x.end; children = 0; value = x.value; detail = 0; size = 1 }

@@ -2,12 +2,11 @@
 -- and behind a phrase that is no path it stops at an assignment sign.
 use Rattle.std.specs.Prelude.{◌≡◌, List, Bool, not, ◌||◌, ℕ}
 use Rattle.std.proofs.Math.Option.{some}
-use Rattle.grammar.specs.Words.{words}
+use Rattle.grammar.specs.Words.{the_end, no_token}
 use Rattle.grammar.specs.Grammar.{Ask, Symbol, Token, Look, found, over, wrong, Stream, Parts, View, Language, one_of}
 use Rattle.grammar.specs.Limits.{Counts, kept}
 use Rattle.grammar.specs.Choice.{see, chosen}
 use Rattle.grammar.specs.Readings.{peek, Reads}
-open words use {the_end, no_token}
 
 module _ (S : Stream) (l : Language) where
   abbrev pub viewed : Look S.Place → View

@@ -2,12 +2,10 @@
 -- A kind of phrase stands in capitals. `row k` makes a row of kind k of all that the phrase has up to there; `part` says
 -- that the part is there of which the row's value tells; a kind of `rest_kinds` is no phrase of its own but the rest of one.
 use Rattle.std.specs.Prelude.{List, [], ◌∷◌, ◌++◌, Bool, not, cond, ℕ}
-use Rattle.rows.specs.Kinds.{kinds}
-use Rattle.grammar.specs.Words.{names, path_items, literals, assign_signs, compare_signs, sum_signs, product_signs, return_words, filter_words, four_words, words}
+use Rattle.rows.specs.Kinds as kinds
+use Rattle.grammar.specs.Words.{name, underscore, f_quote, '=>', '&&', '||', '->', open_brace, close_brace, open_paren, close_paren, open_bracket, close_bracket, ':', semicolon, comma, dot, '=', '?', '!', '-', 'const', 'else', 'for', 'fn', 'if', 'import', 'in', 'let', 'match', 'test', 'while', names, path_items, literals, assign_signs, compare_signs, sum_signs, product_signs, return_words, filter_words, four_words}
 use Rattle.grammar.specs.Grammar.{plain, has_value, opens_bracket, closes_bracket, is_prefix, is_head, is_else_if, same, body, Symbol, token, phrase, unless, note, left_side, text, Rule}
-use Rattle.grammar.specs.Kinds.{records, no_records, phrases}
-open words use {name, underscore, f-quote, '=>', '&&', '||', '->', open-brace, close-brace, open-paren, close-paren, open-bracket, close-bracket, ':', semicolon, comma, dot, '=', '?', '!', '-', 'const', 'else', 'for', 'fn', 'if', 'import', 'in', 'let', 'match', 'test', 'while'}
-open phrases use {TREE, DECLARATIONS, DECLARATION, PARAMS, RESULT, TYPED-NAMES, TYPED-NAMES-MORE, TYPED-NAME, NAME, IMPORT, IMPORTED, IMPORTPATH, IMPORTPATH-REST, IMPORTPATH-DOT, IMPORTPATHS, IMPORTPATHS-MORE, PATH-ITEM, PATH, PATH-REST, TYPE, TYPE-MARKS, TYPE-BASE, TYPE-BRACKETS, TYPES, TYPES-MORE, BLOCK, STATEMENTS, STATEMENT, AFTER-FOUR, AFTER-EXPR, LET, LET-TYPE, LITERAL, F-STRING, HOLE, PARENS, BRACES, BRACES-INSIDE, FIELDS, FIELDS-MORE, FIELD, FIELD-NAME, EXPRS, EXPRS-MORE, FOUR, ELSE, ELSE-PART, ELSE-IF, ARMS, ARM, ARM-BODY, ARM-NEXT, ARM-COMMA, GUARD, PATTERN, VARIANT, VARIANT-NAMES, NAMES, NAMES-MORE, EXPR, RETURNED, ASSIGNED, BINARY, OR-MORE, AND, AND-MORE, COMPARE, COMPARE-MORE, SUM, SUM-MORE, PRODUCT, PRODUCT-MORE, OPERAND, POSTFIX, AFTER-PATH}
+use Rattle.grammar.specs.Kinds.{records, no_records, TREE, DECLARATIONS, DECLARATION, PARAMS, RESULT, TYPED_NAMES, TYPED_NAMES_MORE, TYPED_NAME, NAME, IMPORT, IMPORTED, IMPORTPATH, IMPORTPATH_REST, IMPORTPATH_DOT, IMPORTPATHS, IMPORTPATHS_MORE, PATH_ITEM, PATH, PATH_REST, TYPE, TYPE_MARKS, TYPE_BASE, TYPE_BRACKETS, TYPES, TYPES_MORE, BLOCK, STATEMENTS, STATEMENT, AFTER_FOUR, AFTER_EXPR, LET, LET_TYPE, LITERAL, F_STRING, HOLE, PARENS, BRACES, BRACES_INSIDE, FIELDS, FIELDS_MORE, FIELD, FIELD_NAME, EXPRS, EXPRS_MORE, FOUR, ELSE, ELSE_PART, ELSE_IF, ARMS, ARM, ARM_BODY, ARM_NEXT, ARM_COMMA, GUARD, PATTERN, VARIANT, VARIANT_NAMES, NAMES, NAMES_MORE, EXPR, RETURNED, ASSIGNED, BINARY, OR_MORE, AND, AND_MORE, COMPARE, COMPARE_MORE, SUM, SUM_MORE, PRODUCT, PRODUCT_MORE, OPERAND, POSTFIX, AFTER_PATH}
 
 -- A word; one of several words; a word that opens or closes a bracket; a prefix; a head's word; a literal.
 abbrev pub word : ℕ → Symbol
@@ -72,7 +70,7 @@ list_of ITEM LIST MORE =
     []
 
 unfoldable pub lists : List Rule
-lists = list_of TYPED-NAME TYPED-NAMES TYPED-NAMES-MORE ++ (list_of TYPE TYPES TYPES-MORE ++ (list_of (EXPR records) EXPRS EXPRS-MORE ++ (list_of FIELD FIELDS FIELDS-MORE ++ list_of NAME NAMES NAMES-MORE)))
+lists = list_of TYPED_NAME TYPED_NAMES TYPED_NAMES_MORE ++ (list_of TYPE TYPES TYPES_MORE ++ (list_of (EXPR records) EXPRS EXPRS_MORE ++ (list_of FIELD FIELDS FIELDS_MORE ++ list_of NAME NAMES NAMES_MORE)))
 
 -- Declarations: `const name : type = expr ;`; `fn name (params) [-> type] block`; `filter` or `filtermap name (params)
 -- block`; `test name block`; `import importpath ;`. Params: list of `name : type`. (`tests`: `test` is a declaration.)
@@ -85,9 +83,9 @@ declarations tests =
     ∣ (one filter_words ∷ a NAME ∷ a PARAMS ∷ a BLOCK ∷ row kinds.FILTER ∷ [])
     ∣ (a IMPORT ∷ [])
     ∣ (word 'test' ∷ a NAME ∷ a BLOCK ∷ row kinds.TEST ∷ []) when tests ∷
-    PARAMS ⟶ (opens open-paren ∷ a TYPED-NAMES ∷ closes close-paren ∷ []) ∷
+    PARAMS ⟶ (opens open_paren ∷ a TYPED_NAMES ∷ closes close_paren ∷ []) ∷
     RESULT ⟶ nothing ∣ (word '->' ∷ a TYPE ∷ part ∷ []) ∷
-    TYPED-NAME ⟶ (a NAME ∷ word ':' ∷ a TYPE ∷ row kinds.TYPED-NAME ∷ []) ∷
+    TYPED_NAME ⟶ (a NAME ∷ word ':' ∷ a TYPE ∷ row kinds.TYPED_NAME ∷ []) ∷
     NAME ⟶ (one names ∷ row kinds.NAME ∷ []) ∷
     IMPORT ⟶ (word 'import' ∷ a IMPORTED ∷ word semicolon ∷ []) ∷
     []
@@ -97,28 +95,28 @@ declarations tests =
 unfoldable pub paths : List Rule
 paths =
     IMPORTED ⟶ (a IMPORTPATH ∷ row kinds.IMPORT ∷ []) ∷
-    IMPORTPATH ⟶ (a PATH-ITEM ∷ a IMPORTPATH-REST ∷ row kinds.IMPORT-PATH ∷ []) ∷
-    IMPORTPATH-REST ⟶ nothing ∣ (word dot ∷ a IMPORTPATH-DOT ∷ []) ∷
-    IMPORTPATH-DOT ⟶ (a PATH-ITEM ∷ a IMPORTPATH-REST ∷ [])
-    ∣ (opens open-brace ∷ a IMPORTPATHS ∷ closes close-brace ∷ []) ∷
-    IMPORTPATHS ⟶ (a IMPORTPATH ∷ a IMPORTPATHS-MORE ∷ []) ∷
-    IMPORTPATHS-MORE ⟶ nothing ∣ (word comma ∷ a IMPORTPATHS ∷ []) ∷
-    PATH-ITEM ⟶ (one path_items ∷ row kinds.NAME ∷ []) ∷
-    PATH ⟶ (a PATH-ITEM ∷ a PATH-REST ∷ row kinds.PATH ∷ []) ∷
-    PATH-REST ⟶ nothing ∣ (word dot ∷ a PATH-ITEM ∷ a PATH-REST ∷ []) ∷
+    IMPORTPATH ⟶ (a PATH_ITEM ∷ a IMPORTPATH_REST ∷ row kinds.IMPORT_PATH ∷ []) ∷
+    IMPORTPATH_REST ⟶ nothing ∣ (word dot ∷ a IMPORTPATH_DOT ∷ []) ∷
+    IMPORTPATH_DOT ⟶ (a PATH_ITEM ∷ a IMPORTPATH_REST ∷ [])
+    ∣ (opens open_brace ∷ a IMPORTPATHS ∷ closes close_brace ∷ []) ∷
+    IMPORTPATHS ⟶ (a IMPORTPATH ∷ a IMPORTPATHS_MORE ∷ []) ∷
+    IMPORTPATHS_MORE ⟶ nothing ∣ (word comma ∷ a IMPORTPATHS ∷ []) ∷
+    PATH_ITEM ⟶ (one path_items ∷ row kinds.NAME ∷ []) ∷
+    PATH ⟶ (a PATH_ITEM ∷ a PATH_REST ∷ row kinds.PATH ∷ []) ∷
+    PATH_REST ⟶ nothing ∣ (word dot ∷ a PATH_ITEM ∷ a PATH_REST ∷ []) ∷
     []
 
 -- Type: `!`, `()`, `{ list of name : type }`, or a path with perhaps `[ list of types ]`; then any number of `?`.
 unfoldable pub types : List Rule
 types =
-    TYPE ⟶ (a TYPE-BASE ∷ a TYPE-MARKS ∷ []) ∷
-    TYPE-MARKS ⟶ nothing ∣ (word '?' ∷ row kinds.OPTION ∷ a TYPE-MARKS ∷ []) ∷
-    TYPE-BASE ⟶ (word '!' ∷ row kinds.NEVER ∷ [])
-    ∣ (opens open-paren ∷ closes close-paren ∷ row kinds.UNIT ∷ [])
-    ∣ (opens open-brace ∷ a TYPED-NAMES ∷ closes close-brace ∷ row kinds.RECORD-TYPE ∷ [])
-    ∣ (a PATH ∷ a TYPE-BRACKETS ∷ []) ∷
-    TYPE-BRACKETS ⟶ (row kinds.PATH-TYPE ∷ [])
-    ∣ (opens open-bracket ∷ a TYPES ∷ closes close-bracket ∷ part ∷ row kinds.PATH-TYPE ∷ []) ∷
+    TYPE ⟶ (a TYPE_BASE ∷ a TYPE_MARKS ∷ []) ∷
+    TYPE_MARKS ⟶ nothing ∣ (word '?' ∷ row kinds.OPTION ∷ a TYPE_MARKS ∷ []) ∷
+    TYPE_BASE ⟶ (word '!' ∷ row kinds.NEVER ∷ [])
+    ∣ (opens open_paren ∷ closes close_paren ∷ row kinds.UNIT ∷ [])
+    ∣ (opens open_brace ∷ a TYPED_NAMES ∷ closes close_brace ∷ row kinds.RECORD_TYPE ∷ [])
+    ∣ (a PATH ∷ a TYPE_BRACKETS ∷ []) ∷
+    TYPE_BRACKETS ⟶ (row kinds.PATH_TYPE ∷ [])
+    ∣ (opens open_bracket ∷ a TYPES ∷ closes close_bracket ∷ part ∷ row kinds.PATH_TYPE ∷ []) ∷
     []
 
 -- Block: `{ statements [last] }`. Statements: import; `let name [: type] = expr ;`; an `if`, `match`, `while` or `for`,
@@ -126,19 +124,19 @@ types =
 -- it is one of the four and no more. One of the four directly before `}` is the last expression.
 unfoldable pub blocks : List Rule
 blocks =
-    BLOCK ⟶ (opens open-brace ∷ a STATEMENTS ∷ closes close-brace ∷ row kinds.BLOCK ∷ []) ∷
+    BLOCK ⟶ (opens open_brace ∷ a STATEMENTS ∷ closes close_brace ∷ row kinds.BLOCK ∷ []) ∷
     STATEMENTS ⟶ nothing ∣ (a STATEMENT ∷ []) ∷
     STATEMENT ⟶ (a IMPORT ∷ a STATEMENTS ∷ [])
     ∣ (a LET ∷ a STATEMENTS ∷ [])
-    ∣ (a FOUR ∷ a AFTER-FOUR ∷ [])
-    ∣ (unless four_words ∷ a (EXPR records) ∷ a AFTER-EXPR ∷ []) ∷
-    AFTER-FOUR ⟶ (part ∷ [])
+    ∣ (a FOUR ∷ a AFTER_FOUR ∷ [])
+    ∣ (unless four_words ∷ a (EXPR records) ∷ a AFTER_EXPR ∷ []) ∷
+    AFTER_FOUR ⟶ (part ∷ [])
     ∣ (word semicolon ∷ a STATEMENTS ∷ [])
     ∣ (a STATEMENT ∷ []) ∷
-    AFTER-EXPR ⟶ (part ∷ [])
+    AFTER_EXPR ⟶ (part ∷ [])
     ∣ (word semicolon ∷ a STATEMENTS ∷ []) ∷
-    LET ⟶ (word 'let' ∷ a NAME ∷ a LET-TYPE ∷ word '=' ∷ a (EXPR records) ∷ word semicolon ∷ row kinds.LET ∷ []) ∷
-    LET-TYPE ⟶ nothing ∣ (word ':' ∷ a TYPE ∷ part ∷ []) ∷
+    LET ⟶ (word 'let' ∷ a NAME ∷ a LET_TYPE ∷ word '=' ∷ a (EXPR records) ∷ word semicolon ∷ row kinds.LET ∷ []) ∷
+    LET_TYPE ⟶ nothing ∣ (word ':' ∷ a TYPE ∷ part ∷ []) ∷
     []
 
 -- After `if`, `while`, `in`, `match` the expr holds no record, except inside its own brackets: `r` says that it may.
@@ -153,33 +151,33 @@ exprs r =
     ∣ nothing when r ∷
     ASSIGNED r ⟶ nothing ∣ (one assign_signs ∷ a (BINARY r) ∷ row kinds.ASSIGN ∷ []) ∷
     -- Binary, loosest first: `||`; `&&`; `== != < <= > >=`, not chained; `+ -`; `* / %`. The others group to the left.
-    BINARY r ⟶ (a (AND r) ∷ a (OR-MORE r) ∷ []) ∷
-    OR-MORE r ⟶ nothing ∣ (word '||' ∷ a (AND r) ∷ row kinds.BINARY ∷ a (OR-MORE r) ∷ []) ∷
-    AND r ⟶ (a (COMPARE r) ∷ a (AND-MORE r) ∷ []) ∷
-    AND-MORE r ⟶ nothing ∣ (word '&&' ∷ a (COMPARE r) ∷ row kinds.BINARY ∷ a (AND-MORE r) ∷ []) ∷
-    COMPARE r ⟶ (a (SUM r) ∷ a (COMPARE-MORE r) ∷ []) ∷
-    COMPARE-MORE r ⟶ nothing ∣ (one compare_signs ∷ a (SUM r) ∷ row kinds.BINARY ∷ []) ∷
-    SUM r ⟶ (a (PRODUCT r) ∷ a (SUM-MORE r) ∷ []) ∷
-    SUM-MORE r ⟶ nothing ∣ (one sum_signs ∷ a (PRODUCT r) ∷ row kinds.BINARY ∷ a (SUM-MORE r) ∷ []) ∷
-    PRODUCT r ⟶ (a (OPERAND r) ∷ a (PRODUCT-MORE r) ∷ []) ∷
-    PRODUCT-MORE r ⟶ nothing ∣ (one product_signs ∷ a (OPERAND r) ∷ row kinds.BINARY ∷ a (PRODUCT-MORE r) ∷ []) ∷
+    BINARY r ⟶ (a (AND r) ∷ a (OR_MORE r) ∷ []) ∷
+    OR_MORE r ⟶ nothing ∣ (word '||' ∷ a (AND r) ∷ row kinds.BINARY ∷ a (OR_MORE r) ∷ []) ∷
+    AND r ⟶ (a (COMPARE r) ∷ a (AND_MORE r) ∷ []) ∷
+    AND_MORE r ⟶ nothing ∣ (word '&&' ∷ a (COMPARE r) ∷ row kinds.BINARY ∷ a (AND_MORE r) ∷ []) ∷
+    COMPARE r ⟶ (a (SUM r) ∷ a (COMPARE_MORE r) ∷ []) ∷
+    COMPARE_MORE r ⟶ nothing ∣ (one compare_signs ∷ a (SUM r) ∷ row kinds.BINARY ∷ []) ∷
+    SUM r ⟶ (a (PRODUCT r) ∷ a (SUM_MORE r) ∷ []) ∷
+    SUM_MORE r ⟶ nothing ∣ (one sum_signs ∷ a (PRODUCT r) ∷ row kinds.BINARY ∷ a (SUM_MORE r) ∷ []) ∷
+    PRODUCT r ⟶ (a (OPERAND r) ∷ a (PRODUCT_MORE r) ∷ []) ∷
+    PRODUCT_MORE r ⟶ nothing ∣ (one product_signs ∷ a (OPERAND r) ∷ row kinds.BINARY ∷ a (PRODUCT_MORE r) ∷ []) ∷
     -- Operand: any `!` or `-`, then an atom with any `?`, `( list of exprs )`, `. name`. Atom: literal, path, `( expr )`,
     -- one of the four, a block or `{ list of name : expr }` with one field or more, `path { list of name : expr }`.
     OPERAND r ⟶ (prefix ('!' ∷ []) ∷ a (OPERAND r) ∷ row kinds.NOT ∷ [])
     ∣ (prefix ('-' ∷ []) ∷ a (OPERAND r) ∷ row kinds.NEGATE ∷ [])
     ∣ (a LITERAL ∷ a (POSTFIX r) ∷ [])
-    ∣ (a F-STRING ∷ a (POSTFIX r) ∷ [])
-    ∣ (a PATH ∷ a (AFTER-PATH r) ∷ [])
+    ∣ (a F_STRING ∷ a (POSTFIX r) ∷ [])
+    ∣ (a PATH ∷ a (AFTER_PATH r) ∷ [])
     ∣ (a PARENS ∷ a (POSTFIX r) ∷ [])
     ∣ (a FOUR ∷ a (POSTFIX r) ∷ [])
     ∣ (a BRACES ∷ a (POSTFIX r) ∷ []) when r
     ∣ (a BLOCK ∷ a (POSTFIX r) ∷ []) when (not r) ∷
     POSTFIX r ⟶ nothing ∣ (word '?' ∷ row kinds.QUESTION ∷ a (POSTFIX r) ∷ [])
-    ∣ (opens open-paren ∷ a EXPRS ∷ closes close-paren ∷ row kinds.CALL ∷ a (POSTFIX r) ∷ [])
+    ∣ (opens open_paren ∷ a EXPRS ∷ closes close_paren ∷ row kinds.CALL ∷ a (POSTFIX r) ∷ [])
     ∣ (word dot ∷ a NAME ∷ row kinds.ACCESS ∷ a (POSTFIX r) ∷ []) ∷
-    AFTER-PATH r ⟶ nothing ∣ (word '?' ∷ row kinds.QUESTION ∷ a (POSTFIX r) ∷ [])
-    ∣ (opens open-paren ∷ a EXPRS ∷ closes close-paren ∷ row kinds.CALL ∷ a (POSTFIX r) ∷ [])
-    ∣ (opens open-brace ∷ a FIELDS ∷ closes close-brace ∷ part ∷ row kinds.RECORD ∷ a (POSTFIX r) ∷ []) when r ∷
+    AFTER_PATH r ⟶ nothing ∣ (word '?' ∷ row kinds.QUESTION ∷ a (POSTFIX r) ∷ [])
+    ∣ (opens open_paren ∷ a EXPRS ∷ closes close_paren ∷ row kinds.CALL ∷ a (POSTFIX r) ∷ [])
+    ∣ (opens open_brace ∷ a FIELDS ∷ closes close_brace ∷ part ∷ row kinds.RECORD ∷ a (POSTFIX r) ∷ []) when r ∷
     []
 
 -- Atom: literal, path, `( expr )`, block, `if expr block [else block or if]`, `while expr block`, `for name in expr
@@ -187,22 +185,22 @@ exprs r =
 unfoldable pub atoms : List Rule
 atoms =
     LITERAL ⟶ (literal literals ∷ row literal_row ∷ []) ∷
-    F-STRING ⟶ (word f-quote ∷ text HOLE ∷ row kinds.F-STRING ∷ []) ∷
-    HOLE ⟶ (opens open-brace ∷ a (EXPR records) ∷ closes close-brace ∷ text HOLE ∷ []) ∷
-    PARENS ⟶ (opens open-paren ∷ a (EXPR records) ∷ closes close-paren ∷ []) ∷
-    BRACES ⟶ (opens open-brace ∷ a BRACES-INSIDE ∷ []) ∷
-    BRACES-INSIDE ⟶ (a FIELD ∷ a FIELDS-MORE ∷ closes close-brace ∷ row kinds.RECORD ∷ [])
-    ∣ (a STATEMENTS ∷ closes close-brace ∷ row kinds.BLOCK ∷ []) ∷
-    FIELD ⟶ (a FIELD-NAME ∷ word ':' ∷ a (EXPR records) ∷ row kinds.FIELD ∷ []) ∷
-    FIELD-NAME ⟶ (one names ∷ row kinds.NAME ∷ []) ∷
+    F_STRING ⟶ (word f_quote ∷ text HOLE ∷ row kinds.F_STRING ∷ []) ∷
+    HOLE ⟶ (opens open_brace ∷ a (EXPR records) ∷ closes close_brace ∷ text HOLE ∷ []) ∷
+    PARENS ⟶ (opens open_paren ∷ a (EXPR records) ∷ closes close_paren ∷ []) ∷
+    BRACES ⟶ (opens open_brace ∷ a BRACES_INSIDE ∷ []) ∷
+    BRACES_INSIDE ⟶ (a FIELD ∷ a FIELDS_MORE ∷ closes close_brace ∷ row kinds.RECORD ∷ [])
+    ∣ (a STATEMENTS ∷ closes close_brace ∷ row kinds.BLOCK ∷ []) ∷
+    FIELD ⟶ (a FIELD_NAME ∷ word ':' ∷ a (EXPR records) ∷ row kinds.FIELD ∷ []) ∷
+    FIELD_NAME ⟶ (one names ∷ row kinds.NAME ∷ []) ∷
     FOUR ⟶ (head 'if' ∷ a (EXPR no_records) ∷ behind BLOCK ∷ behind ELSE ∷ row kinds.IF ∷ [])
     ∣ (head 'while' ∷ a (EXPR no_records) ∷ behind BLOCK ∷ row kinds.WHILE ∷ [])
     ∣ (head 'for' ∷ a NAME ∷ word 'in' ∷ a (EXPR no_records) ∷ behind BLOCK ∷ row kinds.FOR ∷ [])
-    ∣ (head 'match' ∷ a (EXPR no_records) ∷ opens open-brace ∷ behind ARMS ∷ closes close-brace ∷ row kinds.MATCH ∷ []) ∷
-    ELSE ⟶ nothing ∣ (word 'else' ∷ a ELSE-PART ∷ []) ∷
-    ELSE-PART ⟶ (a BLOCK ∷ [])
-    ∣ (a ELSE-IF ∷ []) ∷
-    ELSE-IF ⟶ (token is_else_if ('if' ∷ []) ∷ a (EXPR no_records) ∷ behind BLOCK ∷ behind ELSE ∷ row kinds.IF ∷ []) ∷
+    ∣ (head 'match' ∷ a (EXPR no_records) ∷ opens open_brace ∷ behind ARMS ∷ closes close_brace ∷ row kinds.MATCH ∷ []) ∷
+    ELSE ⟶ nothing ∣ (word 'else' ∷ a ELSE_PART ∷ []) ∷
+    ELSE_PART ⟶ (a BLOCK ∷ [])
+    ∣ (a ELSE_IF ∷ []) ∷
+    ELSE_IF ⟶ (token is_else_if ('if' ∷ []) ∷ a (EXPR no_records) ∷ behind BLOCK ∷ behind ELSE ∷ row kinds.IF ∷ []) ∷
     []
 
 -- Arm: a name other than `_` with perhaps `( list of names )`, or `_` alone; perhaps `if expr`; `=>`; a body. A body that
@@ -211,17 +209,17 @@ atoms =
 unfoldable pub arms : List Rule
 arms =
     ARMS ⟶ nothing ∣ (a ARM ∷ []) ∷
-    ARM ⟶ (a PATTERN ∷ a GUARD ∷ word '=>' ∷ a ARM-BODY ∷ []) ∷
-    ARM-BODY ⟶ (a BLOCK ∷ row kinds.ARM ∷ a ARM-COMMA ∷ a ARMS ∷ [])
-    ∣ (unless (open-brace ∷ []) ∷ a (EXPR records) ∷ row kinds.ARM ∷ a ARM-NEXT ∷ []) ∷
-    ARM-NEXT ⟶ nothing ∣ (word comma ∷ a ARMS ∷ []) ∷
-    ARM-COMMA ⟶ nothing ∣ (word comma ∷ []) ∷
+    ARM ⟶ (a PATTERN ∷ a GUARD ∷ word '=>' ∷ a ARM_BODY ∷ []) ∷
+    ARM_BODY ⟶ (a BLOCK ∷ row kinds.ARM ∷ a ARM_COMMA ∷ a ARMS ∷ [])
+    ∣ (unless (open_brace ∷ []) ∷ a (EXPR records) ∷ row kinds.ARM ∷ a ARM_NEXT ∷ []) ∷
+    ARM_NEXT ⟶ nothing ∣ (word comma ∷ a ARMS ∷ []) ∷
+    ARM_COMMA ⟶ nothing ∣ (word comma ∷ []) ∷
     GUARD ⟶ nothing ∣ (word 'if' ∷ a (EXPR records) ∷ part ∷ []) ∷
-    PATTERN ⟶ (a VARIANT ∷ a VARIANT-NAMES ∷ [])
+    PATTERN ⟶ (a VARIANT ∷ a VARIANT_NAMES ∷ [])
     ∣ (word underscore ∷ row kinds.ANY ∷ []) ∷
     VARIANT ⟶ (word name ∷ row kinds.NAME ∷ []) ∷
-    VARIANT-NAMES ⟶ (row kinds.VARIANT ∷ [])
-    ∣ (opens open-paren ∷ a NAMES ∷ closes close-paren ∷ part ∷ row kinds.VARIANT ∷ []) ∷
+    VARIANT_NAMES ⟶ (row kinds.VARIANT ∷ [])
+    ∣ (opens open_paren ∷ a NAMES ∷ closes close_paren ∷ part ∷ row kinds.VARIANT ∷ []) ∷
     []
 
 unfoldable pub rules : Bool → List Rule
@@ -231,8 +229,8 @@ rules tests = lists ++ (declarations tests ++ (paths ++ (types ++ (blocks ++ (ex
 -- The rest of a phrase, and no phrase itself: what it has counts as the phrase's own.
 abbrev pub rest_kinds : List ℕ
 rest_kinds =
-    DECLARATIONS ∷ PARAMS ∷ RESULT ∷ TYPED-NAMES ∷ TYPED-NAMES-MORE ∷ IMPORTPATH-REST ∷ IMPORTPATH-DOT ∷ IMPORTPATHS ∷ IMPORTPATHS-MORE ∷ PATH-REST ∷
-    TYPE-MARKS ∷ TYPE-BRACKETS ∷ TYPES ∷ TYPES-MORE ∷ STATEMENTS ∷ STATEMENT ∷ AFTER-FOUR ∷ AFTER-EXPR ∷ LET-TYPE ∷
-    RETURNED records ∷ ASSIGNED records ∷ OR-MORE records ∷ AND-MORE records ∷ COMPARE-MORE records ∷ SUM-MORE records ∷ PRODUCT-MORE records ∷ POSTFIX records ∷ AFTER-PATH records ∷
-    RETURNED no_records ∷ ASSIGNED no_records ∷ OR-MORE no_records ∷ AND-MORE no_records ∷ COMPARE-MORE no_records ∷ SUM-MORE no_records ∷ PRODUCT-MORE no_records ∷ POSTFIX no_records ∷ AFTER-PATH no_records ∷
-    HOLE ∷ BRACES-INSIDE ∷ FIELDS ∷ FIELDS-MORE ∷ EXPRS ∷ EXPRS-MORE ∷ ELSE ∷ ELSE-PART ∷ ARM-BODY ∷ ARM-NEXT ∷ ARM-COMMA ∷ GUARD ∷ VARIANT-NAMES ∷ NAMES ∷ NAMES-MORE ∷ []
+    DECLARATIONS ∷ PARAMS ∷ RESULT ∷ TYPED_NAMES ∷ TYPED_NAMES_MORE ∷ IMPORTPATH_REST ∷ IMPORTPATH_DOT ∷ IMPORTPATHS ∷ IMPORTPATHS_MORE ∷ PATH_REST ∷
+    TYPE_MARKS ∷ TYPE_BRACKETS ∷ TYPES ∷ TYPES_MORE ∷ STATEMENTS ∷ STATEMENT ∷ AFTER_FOUR ∷ AFTER_EXPR ∷ LET_TYPE ∷
+    RETURNED records ∷ ASSIGNED records ∷ OR_MORE records ∷ AND_MORE records ∷ COMPARE_MORE records ∷ SUM_MORE records ∷ PRODUCT_MORE records ∷ POSTFIX records ∷ AFTER_PATH records ∷
+    RETURNED no_records ∷ ASSIGNED no_records ∷ OR_MORE no_records ∷ AND_MORE no_records ∷ COMPARE_MORE no_records ∷ SUM_MORE no_records ∷ PRODUCT_MORE no_records ∷ POSTFIX no_records ∷ AFTER_PATH no_records ∷
+    HOLE ∷ BRACES_INSIDE ∷ FIELDS ∷ FIELDS_MORE ∷ EXPRS ∷ EXPRS_MORE ∷ ELSE ∷ ELSE_PART ∷ ARM_BODY ∷ ARM_NEXT ∷ ARM_COMMA ∷ GUARD ∷ VARIANT_NAMES ∷ NAMES ∷ NAMES_MORE ∷ []

@@ -19,11 +19,11 @@ use Rattle.texts.specs.declared.Part.{Part}
 use Rattle.texts.specs.declared.Part.TheVariants.{Before, Ends as Last, None}
 use Rattle.texts.specs.Parts.{part_at}
 use Rattle.texts.proofs.Parts.{Parted, parted_before, parted_ends, parted_none, part_lies}
-use Rattle.grammar.specs.Words.{words}
+use Rattle.grammar.specs.Words.{f_quote, text_then_hole}
 use Rattle.grammar.specs.Grammar.{Token, found, Parts, one_of}
 use Rattle.grammar.specs.Limits.{zeros}
 use Rattle.grammar.specs.Table.{a}
-use Rattle.grammar.specs.Kinds.{phrases}
+use Rattle.grammar.specs.Kinds.{DECLARATION}
 use Rattle.grammar.specs.Language.{roto}
 use Rattle.grammar.specs.Readings.{Reading}
 use Rattle.grammar.proofs.Checks.{roto_full}
@@ -37,8 +37,6 @@ use Rattle.keeping.proofs.Gap.{gap}
 use Rattle.keeping.proofs.Ending.{closers, roto_shut, last_sign}
 use Rattle.keeping.proofs.Signs.{sign_token}
 use Rattle.keeping.proofs.Looks.{not_taken, as_token, look_upto, piece_upto}
-open words use {f-quote, text-then-hole}
-open phrases use {DECLARATION}
 
 pub pieces_keep : (s : List ℕ) (x : Token) (i j : ℕ) → (source s).piece i ≡ found x j → length s - j ≤ length s - i
 pieces_keep s x i j e = let h = pieces_take s x i j e in omega arith
@@ -78,7 +76,7 @@ fenced s x i m e c = by (step_at s i) refl e
   where
     after : (b q : Bool) (r : Refusal) → look_after b q r ≡ found x m → T (one_of x.word closers) → ⊥
     after true q r z c = let v : ◌≡◌ {A = ℕ} 0 1 = cc in omega arith
-    after false true r z c = let v : f-quote ≡ x.word = cc in subst (λ (w : ℕ). T (one_of w closers)) (sym v) c
+    after false true r z c = let v : f_quote ≡ x.word = cc in subst (λ (w : ℕ). T (one_of w closers)) (sym v) c
     after false false r z c = let v : ◌≡◌ {A = ℕ} 0 1 = cc in omega arith
 
     by : (k : Step) → step_at s i ≡ k → look_of s k ≡ found x m → Fenced s m
@@ -101,7 +99,7 @@ module _ (tests : Bool) where
   kept_sign s none = inl refl
   kept_sign s (more r k) = elim (kept_sign s k) [ inl e ↦ inr (subst (Fenced s) (sym e) (sign_behind s r)) | inr f ↦ inr f ]
 
-  hole_is : (b : Bool) → (roto b).hole ≡ text-then-hole
+  hole_is : (b : Bool) → (roto b).hole ≡ text_then_hole
   unfolding roto
   hole_is b = refl
 

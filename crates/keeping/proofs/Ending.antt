@@ -5,20 +5,18 @@ use mathlib.Core.Bool.{Bool, true, false, not, ◌&&◌, ◌||◌, cond}
 use mathlib.Core.Logic.{inl, inr}
 use Prim.Native.Nat.{ℕ}
 use lib.Dec.{T, eqb, eqb→eq}
-use Rattle.grammar.specs.Words.{words}
+use Rattle.grammar.specs.Words.{close_brace, semicolon}
 use Rattle.grammar.specs.Grammar.{Ask, same, Symbol, token, phrase, unless, note, left_side, text, Rule, Token, found, Stream, Parts, Language, one_of, alternatives, In}
 use Rattle.grammar.specs.Limits.{Counts}
-use Rattle.grammar.specs.Kinds.{phrases}
+use Rattle.grammar.specs.Kinds.{DECLARATION, BLOCK, IMPORT}
 use Rattle.grammar.specs.Choice.{hollow}
 use Rattle.grammar.specs.Language.{roto}
 use Rattle.grammar.specs.Readings.{reads_end, reads_token, reads_phrase, reads_unless, reads_note, reads_side, reads_text, ReadingBy}
 use Rattle.grammar.proofs.Bools.{and_l, and_r, or_cases, implied}
 use Rattle.grammar.proofs.Pass.{each_passes, passes_at}
-open words use {close-brace, semicolon}
-open phrases use {DECLARATION, BLOCK, IMPORT}
 
 abbrev pub closers : List ℕ
-closers = close-brace ∷ semicolon ∷ []
+closers = close_brace ∷ semicolon ∷ []
 
 abbrev all_close : List ℕ → Bool
 all_close [] = true

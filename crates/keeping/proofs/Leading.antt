@@ -7,7 +7,7 @@ use Prim.Native.Nat.{ℕ}
 use lib.Dec.{T}
 use Rattle.grammar.specs.Grammar.{Symbol, token, phrase, unless, note, left_side, text, Rule, Look, Stream, Parts, Language, one_of, alternatives, In}
 use Rattle.grammar.specs.Limits.{Counts}
-use Rattle.grammar.specs.Kinds.{phrases}
+use Rattle.grammar.specs.Kinds.{DECLARATION, IMPORT}
 use Rattle.grammar.specs.Choice.{chosen}
 use Rattle.grammar.specs.Language.{roto}
 use Rattle.grammar.specs.Readings.{reads_end, reads_token, reads_phrase, reads_unless, reads_note, reads_side, reads_text}
@@ -16,7 +16,6 @@ use Rattle.grammar.specs.Refusals.{Why, lacks, Stops, stops_want, stops_past, st
 use Rattle.grammar.proofs.Bools.{implied}
 use Rattle.grammar.proofs.Pass.{each_passes, passes_at}
 use Rattle.grammar.proofs.Core.{chosen_in}
-open phrases use {DECLARATION, IMPORT}
 
 -- a list that begins with a token, by the kinds that do
 abbrev leading_kinds : List ℕ

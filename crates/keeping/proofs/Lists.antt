@@ -9,14 +9,13 @@ use native.Mathlib.Omega.{arith}
 use Rattle.grammar.specs.Grammar.{Token, Look, found, over, Stream, Parts, end, node, alternatives, In, here, there}
 use Rattle.grammar.specs.Limits.{Counts, zeros, inside}
 use Rattle.grammar.specs.Table.{a}
-use Rattle.grammar.specs.Kinds.{phrases}
+use Rattle.grammar.specs.Kinds.{TREE, DECLARATIONS, DECLARATION}
 use Rattle.grammar.specs.Language.{roto}
 use Rattle.grammar.specs.Readings.{Reading, Text, reads_end, reads_phrase}
 use Rattle.grammar.proofs.Good.{filled}
 use Rattle.grammar.proofs.Checks.{roto_full}
 use Rattle.keeping.specs.Kept.{Kept, none, more, Ends}
 use Rattle.keeping.proofs.Window.{stream, roto_solid, on, takes, begins, moved, within}
-open phrases use {TREE, DECLARATIONS, DECLARATION}
 
 module _ (tests : Bool) (S : Stream) where
   pub in_list : (b : Bool) → In (a DECLARATION ∷ a DECLARATIONS ∷ []) (alternatives (roto b) DECLARATIONS)

@@ -28,14 +28,13 @@ use Rattle.texts.specs.declared.Part.TheVariants.{Before, Ends, None}
 use Rattle.texts.specs.Parts.{part_at}
 use Rattle.texts.specs.Texts.{text_of}
 use Rattle.texts.proofs.Parts.{Parted, parted_before, parted_ends, parted_none, part_lies}
-use Rattle.grammar.specs.Words.{words}
+use Rattle.grammar.specs.Words.{text_then_hole, last_text}
 use Rattle.grammar.specs.Grammar.{found, over}
 use Rattle.grammar.specs.Grammar as grammar
 use Rattle.answers.specs.Source.{source, look_of, look_after, token_for, text_token, piece_of}
 use Rattle.keeping.proofs.Fence.{Fence, slice_same, ends_in, token_same, token_upto}
 use Rattle.keeping.proofs.Skips.{step_before, step_fence}
 use Rattle.keeping.proofs.Pieces.{Upto, part_upto}
-open words use {text-then-hole, last-text}
 
 -- A step that finds something is the rules' word for the place behind what is skipped.
 module _ (s : List ℕ) (i : ℕ) {k : Step} (e : step_at s i ≡ k) (some : refused 11 (length s) (length s) ≡ k → ⊥) where
@@ -157,22 +156,22 @@ module _ (s t : List ℕ) (q : ℕ) (long : length s ≡ length t) (same : (i : 
           ap (look_of t) (taken_upto i e (omega arith)) ∙ ap (λ (l : List ℕ). found (token_for w a n.at (literal_of (code_of w) l)) n.at) (sym (slice_same s t q long same fence a n.at (omega arith) (omega arith))) ∙ z
       by (Refused r) e z h = let k = after (eqb r.number 11) (eqb r.number 5) r refl z in let v = k.1 in ap (look_of t) (quote_upto i k.0 e (omega arith)) ∙ z
 
-  pub piece_upto : (x : grammar.Token) (i j : ℕ) → (source s).piece i ≡ found x j → j ≤ q + 1 → (T (eqb x.word text-then-hole) → j < q + 1) → (source t).piece i ≡ found x j
+  pub piece_upto : (x : grammar.Token) (i j : ℕ) → (source s).piece i ≡ found x j → j ≤ q + 1 → (T (eqb x.word text_then_hole) → j < q + 1) → (source t).piece i ≡ found x j
   piece_upto x i j = by (part_at s i) refl (part_lies s i)
     where
-      is_hole : (e : ℕ) → found (text_token text-then-hole i e (text_of (slice i e s))) e ≡ found x j → x.word ≡ text-then-hole
+      is_hole : (e : ℕ) → found (text_token text_then_hole i e (text_of (slice i e s))) e ≡ found x j → x.word ≡ text_then_hole
       is_hole e z = word_of_lem (text_of (slice i e s)) z
         where
-          word_of_lem : (n : Size) → found (text_token text-then-hole i e n) e ≡ found x j → x.word ≡ text-then-hole
-          word_of_lem (Size.Is n) z = let v : text_token text-then-hole i e (Size.Is n) ≡ x = cc in sym (ap (λ (y : grammar.Token). y.word) v)
-          word_of_lem Size.None z = let v : text_token text-then-hole i e Size.None ≡ x = cc in sym (ap (λ (y : grammar.Token). y.word) v)
+          word_of_lem : (n : Size) → found (text_token text_then_hole i e n) e ≡ found x j → x.word ≡ text_then_hole
+          word_of_lem (Size.Is n) z = let v : text_token text_then_hole i e (Size.Is n) ≡ x = cc in sym (ap (λ (y : grammar.Token). y.word) v)
+          word_of_lem Size.None z = let v : text_token text_then_hole i e Size.None ≡ x = cc in sym (ap (λ (y : grammar.Token). y.word) v)
 
-      by : (p : Part) → part_at s i ≡ p → Parted i (length s) p → piece_of s i p ≡ found x j → j ≤ q + 1 → (T (eqb x.word text-then-hole) → j < q + 1) → piece_of t i (part_at t i) ≡ found x j
+      by : (p : Part) → part_at s i ≡ p → Parted i (length s) p → piece_of s i p ≡ found x j → j ≤ q + 1 → (T (eqb x.word text_then_hole) → j < q + 1) → piece_of t i (part_at t i) ≡ found x j
       by (Before e) f (parted_before l m) z h k =
           let v : e ≡ j = cc in
-          let g = k (subst (λ (w : ℕ). T (eqb w text-then-hole)) (sym (is_hole e z)) tt) in
-          ap (piece_of t i) (part_upto s t q long same fence q_in i (subst (Upto q) (sym f) (omega arith)) ∙ f) ∙ ap (λ (y : List ℕ). found (text_token text-then-hole i e (text_of y)) e) (sym (slice_same s t q long same fence i e l (omega arith))) ∙ z
+          let g = k (subst (λ (w : ℕ). T (eqb w text_then_hole)) (sym (is_hole e z)) tt) in
+          ap (piece_of t i) (part_upto s t q long same fence q_in i (subst (Upto q) (sym f) (omega arith)) ∙ f) ∙ ap (λ (y : List ℕ). found (text_token text_then_hole i e (text_of y)) e) (sym (slice_same s t q long same fence i e l (omega arith))) ∙ z
       by (Ends e) f (parted_ends l m) z h k =
           let v : e + 1 ≡ j = cc in
-          ap (piece_of t i) (part_upto s t q long same fence q_in i (subst (Upto q) (sym f) (omega arith)) ∙ f) ∙ ap (λ (y : List ℕ). found (text_token last-text i e (text_of y)) (e + 1)) (sym (slice_same s t q long same fence i e l (omega arith))) ∙ z
+          ap (piece_of t i) (part_upto s t q long same fence q_in i (subst (Upto q) (sym f) (omega arith)) ∙ f) ∙ ap (λ (y : List ℕ). found (text_token last_text i e (text_of y)) (e + 1)) (sym (slice_same s t q long same fence i e l (omega arith))) ∙ z
       by None f parted_none z h k = let v : ◌≡◌ {A = ℕ} 0 1 = cc in absurd (omega arith)

@@ -5,11 +5,11 @@ use mathlib.Core.Bool.{Bool, true, false}
 use mathlib.Core.Option.{none, some}
 use Prim.Native.Nat.{ℕ, ◌<◌}
 use lib.Dec.{T}
-use Rattle.grammar.specs.Words.{filter_words, words}
+use Rattle.grammar.specs.Words.{'const', 'fn', 'import', 'test', filter_words}
 use Rattle.grammar.specs.Grammar.{Symbol, Look, found, over, wrong, Stream, Parts, node, end, one_of}
 use Rattle.grammar.specs.Limits.{Counts, zeros, inside}
 use Rattle.grammar.specs.Table.{a}
-use Rattle.grammar.specs.Kinds.{phrases}
+use Rattle.grammar.specs.Kinds.{TREE, DECLARATIONS, DECLARATION}
 use Rattle.grammar.specs.Choice.{chosen}
 use Rattle.grammar.specs.Language.{roto}
 use Rattle.grammar.specs.Readings.{peek, reads_end, reads_phrase}
@@ -21,8 +21,6 @@ use Rattle.grammar.proofs.Picked.{picks_on, picks_off, on_place, off_place}
 use Rattle.keeping.specs.Kept as kept
 use Rattle.keeping.specs.Kept.{Kept, more}
 use Rattle.keeping.proofs.Runs.{declaration_runs}
-open words use {'const', 'fn', 'import', 'test'}
-open phrases use {TREE, DECLARATIONS, DECLARATION}
 
 abbrev firsts : List ℕ
 firsts = 'const' ∷ 'fn' ∷ 'import' ∷ 'test' ∷ filter_words

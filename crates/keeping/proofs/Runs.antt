@@ -6,12 +6,12 @@ use mathlib.Core.Option.{some}
 use mathlib.Core.Logic.{◌⊎◌, inl, inr}
 use Prim.Native.Nat.{ℕ}
 use lib.Dec.{T}
-use Rattle.rows.specs.Kinds.{kinds}
-use Rattle.grammar.specs.Words.{filter_words, words}
+use Rattle.rows.specs.Kinds as kinds
+use Rattle.grammar.specs.Words.{open_brace, close_brace, ':', semicolon, '=', 'const', 'fn', 'import', 'test', filter_words}
 use Rattle.grammar.specs.Grammar.{Ask, same, Symbol, token, phrase, note, Look, Stream, Parts, end, leaf, node, mark, View, one_of, alternatives, In, here, there}
 use Rattle.grammar.specs.Limits.{Counts, inside}
 use Rattle.grammar.specs.Table.{word, one, opens, closes, row, a}
-use Rattle.grammar.specs.Kinds.{records, phrases}
+use Rattle.grammar.specs.Kinds.{records, DECLARATION, NAME, PARAMS, RESULT, BLOCK, IMPORT, IMPORTED, TYPE, EXPR, STATEMENTS}
 use Rattle.grammar.specs.Choice.{eqv, chosen}
 use Rattle.grammar.specs.Language.{roto}
 use Rattle.grammar.specs.Readings.{word_of_lem, peek, reads_end, reads_token, reads_phrase, reads_note, Reading}
@@ -23,8 +23,6 @@ use Rattle.grammar.proofs.Core.{eqv_refl, complete, one_run}
 use Rattle.grammar.proofs.Refused.{not_both}
 use Rattle.grammar.proofs.Checks.{roto_good}
 use Rattle.grammar.proofs.Picked.{picks_on, on_place}
-open words use {open-brace, close-brace, ':', semicolon, '=', 'const', 'fn', 'import', 'test'}
-open phrases use {DECLARATION, NAME, PARAMS, RESULT, BLOCK, IMPORT, IMPORTED, TYPE, EXPR, STATEMENTS}
 
 abbrev OneOf : List Symbol → List (List Symbol) → Type 0
 OneOf c [] = ⊥
@@ -36,7 +34,7 @@ which (there o) = inr (which o)
 
 -- the only alternative of a block
 block : List Symbol
-block = opens open-brace ∷ a STATEMENTS ∷ closes close-brace ∷ row kinds.BLOCK ∷ []
+block = opens open_brace ∷ a STATEMENTS ∷ closes close_brace ∷ row kinds.BLOCK ∷ []
 
 the_block : (b : Bool) {c : List Symbol} → OneOf c (alternatives (roto b) BLOCK) → c ≡ block
 unfolding roto block
@@ -69,14 +67,14 @@ module _ (S : Stream) (b : Bool) where
   opened n (a_token f) (reads_token {x = x} e m k t) = let u = opened n f t in (leaf x u.0, reads_token e m k u.1)
   opened n (a_phrase f) (reads_phrase {n = k} {a = c} {p = p} o t v) = let u = opened n f v in (node k c p u.0, reads_phrase o t u.1)
 
-  picks_block : (c : Bool) → T (picks_on (roto c) BLOCK (some block) (open-brace ∷ []))
+  picks_block : (c : Bool) → T (picks_on (roto c) BLOCK (some block) (open_brace ∷ []))
   unfolding roto picks_on block
   picks_block true = tt
   picks_block false = tt
 
   shut : {d : Counts} {s : List Symbol} {i r : S.Place} {p : Parts} (n : ℕ) → Front s → Run S (roto b) d (s ++ block) i r p → Goes d (s ++ (a BLOCK ∷ note n ∷ [])) i r
   unfolding inside block
-  shut {i = i} {p = p} n nothing (reads_token {w = w} e m k t) = (node BLOCK block p (mark n end), reads_phrase (on_place (roto b) BLOCK (some block) S (open-brace ∷ []) i (picks_block b) (subst (λ (y : Look S.Place). T (one_of (word_of_lem S (roto b) y) w)) (sym e) m)) (reads_token e m k t) (reads_note reads_end))
+  shut {i = i} {p = p} n nothing (reads_token {w = w} e m k t) = (node BLOCK block p (mark n end), reads_phrase (on_place (roto b) BLOCK (some block) S (open_brace ∷ []) i (picks_block b) (subst (λ (y : Look S.Place). T (one_of (word_of_lem S (roto b) y) w)) (sym e) m)) (reads_token e m k t) (reads_note reads_end))
   shut n (a_token f) (reads_token {x = x} e m k t) = let u = shut n f t in (leaf x u.0, reads_token e m k u.1)
   shut n (a_phrase f) (reads_phrase {n = k} {a = c} {p = p} o t v) = let u = shut n f v in (node k c p u.0, reads_phrase o t u.1)
 

@@ -4,12 +4,11 @@ use Rattle.tokens.specs.Blanks.{skip_all}
 use Rattle.grammar.specs.Grammar.{over}
 use Rattle.grammar.specs.Limits.{zeros}
 use Rattle.grammar.specs.Table.{a}
-use Rattle.grammar.specs.Kinds.{phrases}
+use Rattle.grammar.specs.Kinds.{DECLARATION}
 use Rattle.grammar.specs.Language.{roto}
 use Rattle.grammar.specs.Refusals.{Why, Refusal, said, Stops}
 use Rattle.answers.specs.Source.{source}
 use Rattle.keeping.specs.Kept.{Kept}
-open phrases use {DECLARATION}
 
 -- C-23: from place i on whole declarations stand, up to something that is no declaration: its first byte, "of the declaration it falls in, or of
 -- the refused token where none has begun", and the refusal with which reading it stops.

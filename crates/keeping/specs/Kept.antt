@@ -3,9 +3,8 @@ use Rattle.std.specs.Prelude.{[], ◌∷◌, ◌≡◌}
 use Rattle.grammar.specs.Grammar.{over, Stream, Parts, Language}
 use Rattle.grammar.specs.Limits.{zeros}
 use Rattle.grammar.specs.Table.{a}
-use Rattle.grammar.specs.Kinds.{phrases}
+use Rattle.grammar.specs.Kinds.{DECLARATION}
 use Rattle.grammar.specs.Readings.{Reading}
-open phrases use {DECLARATION}
 
 module _ (S : Stream) (l : Language) where
   -- from i up to m stand whole declarations

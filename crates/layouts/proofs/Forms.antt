@@ -5,8 +5,8 @@ use mathlib.Core.Bool.{Bool, true, false, not, ◌&&◌, cond}
 use Prim.Native.Nat.{ℕ, suc, pred, ◌+◌}
 use lib.Dec.{eqb}
 use native.Mathlib.Omega.{arith}
-use Rattle.rows.specs.Kinds.{kinds}
-use Rattle.grammar.specs.Words.{assign_signs, binary_signs, return_words, filter_words, words}
+use Rattle.rows.specs.Kinds as kinds
+use Rattle.grammar.specs.Words.{'->', open_brace, close_brace, open_paren, close_paren, open_bracket, close_bracket, ':', semicolon, comma, dot, '=', '?', '!', '-', 'const', 'else', 'for', 'fn', 'if', 'import', 'in', 'let', 'match', 'test', 'while', assign_signs, binary_signs, return_words, filter_words}
 use Rattle.canon.specs.Trees.{Label, Forest, none, tree}
 use Rattle.canon.specs.Layout.{Place, whole, head, left, right, pathless, empty, rest, first_kind, Layout, each, ◌then◌, layout, layouts, nth, binary_level, left_level, closing, headed, is_four, is_expr, statements, between, arms, imports}
 use Rattle.canon.specs.Layout as canon
@@ -14,7 +14,6 @@ use Rattle.canon.specs.Text.{signs, fill}
 use Rattle.places.specs.Under.{under, under_operand}
 use Rattle.layouts.specs.Phases.{in_phase, before_type, before_operand, before_part, before_headed, before_item, before, behind_param, next, end_of_type, end_of_operand, end_of_part, end_of_item, behind, going}
 use Rattle.layouts.proofs.Steps.{row, seen, step, Steady, steady, steadily, at_end, stuck, on, parts, quiet, each_step, each_on, list_at_once, list_behind}
-open words use {'->', open-brace, close-brace, open-paren, close-paren, open-bracket, close-bracket, ':', semicolon, comma, dot, '=', '?', '!', '-', 'const', 'else', 'for', 'fn', 'if', 'import', 'in', 'let', 'match', 'test', 'while'}
 
 -- What is to be shown of a row's children.
 abbrev pub Phased : Place → Label → Forest → Type 0
@@ -27,37 +26,37 @@ unfolding layout layouts before before_type under under_operand next behind end_
 path c v d t none = at_end c (row kinds.PATH v d t) 0 [] whole 1 [] [] (λ (k : ℕ) (m : Bool). refl)
 path c v d t (tree b kids ts) = list_at_once c (row kinds.PATH v d t) [] (dot ∷ []) [] [] (λ (k : ℕ) (m : Bool). refl) (λ (k : ℕ) (m : Bool). refl) (λ (k : ℕ) (m : Bool). refl) (λ (k : ℕ) (m : Bool). refl) (tree b kids ts)
 
-pub record_type : (c : Place) (v d : ℕ) (t : List ℕ) (ts : Forest) → Phased c (row kinds.RECORD-TYPE v d t) ts
+pub record_type : (c : Place) (v d : ℕ) (t : List ℕ) (ts : Forest) → Phased c (row kinds.RECORD_TYPE v d t) ts
 unfolding layout layouts before before_type under under_operand next behind end_of_type
-record_type c v d t ts = list_at_once c (row kinds.RECORD-TYPE v d t) (open-brace ∷ []) (comma ∷ []) (open-brace ∷ close-brace ∷ []) (close-brace ∷ []) (λ (k : ℕ) (m : Bool). refl) (λ (k : ℕ) (m : Bool). refl) (λ (k : ℕ) (m : Bool). refl) (λ (k : ℕ) (m : Bool). refl) ts
+record_type c v d t ts = list_at_once c (row kinds.RECORD_TYPE v d t) (open_brace ∷ []) (comma ∷ []) (open_brace ∷ close_brace ∷ []) (close_brace ∷ []) (λ (k : ℕ) (m : Bool). refl) (λ (k : ℕ) (m : Bool). refl) (λ (k : ℕ) (m : Bool). refl) (λ (k : ℕ) (m : Bool). refl) ts
 
-path_type_by : (c : Place) (v d : ℕ) (t : List ℕ) (ts : Forest) (z : Bool) → eqb v 0 ≡ z → Phased c (row kinds.PATH-TYPE v d t) ts
+path_type_by : (c : Place) (v d : ℕ) (t : List ℕ) (ts : Forest) (z : Bool) → eqb v 0 ≡ z → Phased c (row kinds.PATH_TYPE v d t) ts
 unfolding layout layouts before before_type under under_operand next behind end_of_type
-path_type_by c v d t ts true e = rw e (parts c (row kinds.PATH-TYPE v d t) (([] then whole) ∷ []) [] refl (λ (k : ℕ) (m : Bool). rw e refl) (λ (k : ℕ) (m : Bool). rw e refl) (λ (k : ℕ) (m : Bool). rw e refl) (λ (k : ℕ) (m : Bool). rw e refl) ts)
-path_type_by c v d t ts false e = rw e (list_behind c (row kinds.PATH-TYPE v d t) whole (open-bracket ∷ []) (comma ∷ []) (open-bracket ∷ close-bracket ∷ []) (close-bracket ∷ []) (λ (k : ℕ) (m : Bool). rw e refl) (λ (k : ℕ) (m : Bool). rw e refl) (λ (k : ℕ) (m : Bool). rw e refl) (λ (k : ℕ) (m : Bool). rw e refl) ts)
+path_type_by c v d t ts true e = rw e (parts c (row kinds.PATH_TYPE v d t) (([] then whole) ∷ []) [] refl (λ (k : ℕ) (m : Bool). rw e refl) (λ (k : ℕ) (m : Bool). rw e refl) (λ (k : ℕ) (m : Bool). rw e refl) (λ (k : ℕ) (m : Bool). rw e refl) ts)
+path_type_by c v d t ts false e = rw e (list_behind c (row kinds.PATH_TYPE v d t) whole (open_bracket ∷ []) (comma ∷ []) (open_bracket ∷ close_bracket ∷ []) (close_bracket ∷ []) (λ (k : ℕ) (m : Bool). rw e refl) (λ (k : ℕ) (m : Bool). rw e refl) (λ (k : ℕ) (m : Bool). rw e refl) (λ (k : ℕ) (m : Bool). rw e refl) ts)
 
-pub path_type : (c : Place) (v d : ℕ) (t : List ℕ) (ts : Forest) → Phased c (row kinds.PATH-TYPE v d t) ts
+pub path_type : (c : Place) (v d : ℕ) (t : List ℕ) (ts : Forest) → Phased c (row kinds.PATH_TYPE v d t) ts
 path_type c v d t ts = path_type_by c v d t ts (eqb v 0) refl
 
 variant_by : (c : Place) (v d : ℕ) (t : List ℕ) (ts : Forest) (z : Bool) → eqb v 0 ≡ z → Phased c (row kinds.VARIANT v d t) ts
 unfolding layout layouts before before_part under under_operand next behind end_of_part
 variant_by c v d t ts true e = rw e (parts c (row kinds.VARIANT v d t) (([] then whole) ∷ []) [] refl (λ (k : ℕ) (m : Bool). rw e refl) (λ (k : ℕ) (m : Bool). rw e refl) (λ (k : ℕ) (m : Bool). rw e refl) (λ (k : ℕ) (m : Bool). rw e refl) ts)
-variant_by c v d t ts false e = rw e (list_behind c (row kinds.VARIANT v d t) whole (open-paren ∷ []) (comma ∷ []) (open-paren ∷ close-paren ∷ []) (close-paren ∷ []) (λ (k : ℕ) (m : Bool). rw e refl) (λ (k : ℕ) (m : Bool). rw e refl) (λ (k : ℕ) (m : Bool). rw e refl) (λ (k : ℕ) (m : Bool). rw e refl) ts)
+variant_by c v d t ts false e = rw e (list_behind c (row kinds.VARIANT v d t) whole (open_paren ∷ []) (comma ∷ []) (open_paren ∷ close_paren ∷ []) (close_paren ∷ []) (λ (k : ℕ) (m : Bool). rw e refl) (λ (k : ℕ) (m : Bool). rw e refl) (λ (k : ℕ) (m : Bool). rw e refl) (λ (k : ℕ) (m : Bool). rw e refl) ts)
 
 pub variant : (c : Place) (v d : ℕ) (t : List ℕ) (ts : Forest) → Phased c (row kinds.VARIANT v d t) ts
 variant c v d t ts = variant_by c v d t ts (eqb v 0) refl
 
 a_record_by : (c : Place) (v d : ℕ) (t : List ℕ) (ts : Forest) (z : Bool) → eqb v 0 ≡ z → Phased c (row kinds.RECORD v d t) ts
 unfolding layout layouts before before_part under under_operand next behind end_of_part
-a_record_by c v d t ts true e = rw e (list_at_once c (row kinds.RECORD v d t) (open-brace ∷ []) (comma ∷ []) (open-brace ∷ close-brace ∷ []) (close-brace ∷ []) (λ (k : ℕ) (m : Bool). rw e refl) (λ (k : ℕ) (m : Bool). rw e refl) (λ (k : ℕ) (m : Bool). rw e refl) (λ (k : ℕ) (m : Bool). rw e refl) ts)
-a_record_by c v d t ts false e = rw e (list_behind c (row kinds.RECORD v d t) whole (open-brace ∷ []) (comma ∷ []) (open-brace ∷ close-brace ∷ []) (close-brace ∷ []) (λ (k : ℕ) (m : Bool). rw e refl) (λ (k : ℕ) (m : Bool). rw e refl) (λ (k : ℕ) (m : Bool). rw e refl) (λ (k : ℕ) (m : Bool). rw e refl) ts)
+a_record_by c v d t ts true e = rw e (list_at_once c (row kinds.RECORD v d t) (open_brace ∷ []) (comma ∷ []) (open_brace ∷ close_brace ∷ []) (close_brace ∷ []) (λ (k : ℕ) (m : Bool). rw e refl) (λ (k : ℕ) (m : Bool). rw e refl) (λ (k : ℕ) (m : Bool). rw e refl) (λ (k : ℕ) (m : Bool). rw e refl) ts)
+a_record_by c v d t ts false e = rw e (list_behind c (row kinds.RECORD v d t) whole (open_brace ∷ []) (comma ∷ []) (open_brace ∷ close_brace ∷ []) (close_brace ∷ []) (λ (k : ℕ) (m : Bool). rw e refl) (λ (k : ℕ) (m : Bool). rw e refl) (λ (k : ℕ) (m : Bool). rw e refl) (λ (k : ℕ) (m : Bool). rw e refl) ts)
 
 pub a_record : (c : Place) (v d : ℕ) (t : List ℕ) (ts : Forest) → Phased c (row kinds.RECORD v d t) ts
 a_record c v d t ts = a_record_by c v d t ts (eqb v 0) refl
 
 pub call : (c : Place) (v d : ℕ) (t : List ℕ) (ts : Forest) → Phased c (row kinds.CALL v d t) ts
 unfolding layout layouts before before_operand under under_operand next behind end_of_operand
-call c v d t ts = list_behind c (row kinds.CALL v d t) (left 7 c) (open-paren ∷ []) (comma ∷ []) (open-paren ∷ close-paren ∷ []) (close-paren ∷ []) (λ (k : ℕ) (m : Bool). refl) (λ (k : ℕ) (m : Bool). refl) (λ (k : ℕ) (m : Bool). refl) (λ (k : ℕ) (m : Bool). refl) ts
+call c v d t ts = list_behind c (row kinds.CALL v d t) (left 7 c) (open_paren ∷ []) (comma ∷ []) (open_paren ∷ close_paren ∷ []) (close_paren ∷ []) (λ (k : ℕ) (m : Bool). refl) (λ (k : ℕ) (m : Bool). refl) (λ (k : ℕ) (m : Bool). refl) (λ (k : ℕ) (m : Bool). refl) ts
 
 pub the_tree : (c : Place) (v d : ℕ) (t : List ℕ) (ts : Forest) → Phased c (row kinds.TREE v d t) ts
 unfolding layout layouts before before_item under under_operand next behind end_of_item
@@ -71,15 +70,15 @@ never c v d t ts = parts c (row kinds.NEVER v d t) [] ('!' ∷ []) refl (λ (k :
 
 pub unit : (c : Place) (v d : ℕ) (t : List ℕ) (ts : Forest) → Phased c (row kinds.UNIT v d t) ts
 unfolding layout layouts before before_type under under_operand next behind end_of_type
-unit c v d t ts = parts c (row kinds.UNIT v d t) [] (open-paren ∷ close-paren ∷ []) refl (λ (k : ℕ) (m : Bool). refl) (λ (k : ℕ) (m : Bool). refl) (λ (k : ℕ) (m : Bool). refl) (λ (k : ℕ) (m : Bool). refl) ts
+unit c v d t ts = parts c (row kinds.UNIT v d t) [] (open_paren ∷ close_paren ∷ []) refl (λ (k : ℕ) (m : Bool). refl) (λ (k : ℕ) (m : Bool). refl) (λ (k : ℕ) (m : Bool). refl) (λ (k : ℕ) (m : Bool). refl) ts
 
 pub option : (c : Place) (v d : ℕ) (t : List ℕ) (ts : Forest) → Phased c (row kinds.OPTION v d t) ts
 unfolding layout layouts before before_type under under_operand next behind end_of_type
 option c v d t ts = parts c (row kinds.OPTION v d t) (([] then whole) ∷ []) ('?' ∷ []) refl (λ (k : ℕ) (m : Bool). refl) (λ (k : ℕ) (m : Bool). refl) (λ (k : ℕ) (m : Bool). refl) (λ (k : ℕ) (m : Bool). refl) ts
 
-pub typed_name : (c : Place) (v d : ℕ) (t : List ℕ) (ts : Forest) → Phased c (row kinds.TYPED-NAME v d t) ts
+pub typed_name : (c : Place) (v d : ℕ) (t : List ℕ) (ts : Forest) → Phased c (row kinds.TYPED_NAME v d t) ts
 unfolding layout layouts before before_type under under_operand next behind end_of_type
-typed_name c v d t ts = parts c (row kinds.TYPED-NAME v d t) (([] then whole) ∷ ((':' ∷ []) then whole) ∷ []) [] refl (λ (k : ℕ) (m : Bool). refl) (λ (k : ℕ) (m : Bool). refl) (λ (k : ℕ) (m : Bool). refl) (λ (k : ℕ) (m : Bool). refl) ts
+typed_name c v d t ts = parts c (row kinds.TYPED_NAME v d t) (([] then whole) ∷ ((':' ∷ []) then whole) ∷ []) [] refl (λ (k : ℕ) (m : Bool). refl) (λ (k : ℕ) (m : Bool). refl) (λ (k : ℕ) (m : Bool). refl) (λ (k : ℕ) (m : Bool). refl) ts
 
 plus_one : (n : ℕ) → suc n ≡ n + 1
 plus_one n = omega arith
@@ -158,25 +157,25 @@ if_row c v d t (tree a i (tree b j (tree e l ts))) = with_else c v d t (tree a i
 
 -- arms: each but the last knows that one follows
 
-arms_on : (c : Place) (v d : ℕ) (t : List ℕ) (ts : Forest) → fill (arms [] ts) (close-brace ∷ []) ts ≡ going c (row kinds.MATCH v d t) 3 ts
+arms_on : (c : Place) (v d : ℕ) (t : List ℕ) (ts : Forest) → fill (arms [] ts) (close_brace ∷ []) ts ≡ going c (row kinds.MATCH v d t) 3 ts
 unfolding fill going before before_part under next behind end_of_part
 arms_on c v d t none = refl
-arms_on c v d t (tree b kids ts) = step c (row kinds.MATCH v d t) 3 (arms [] (tree b kids ts)) (close-brace ∷ []) b kids ts refl refl (arms_on c v d t ts)
+arms_on c v d t (tree b kids ts) = step c (row kinds.MATCH v d t) 3 (arms [] (tree b kids ts)) (close_brace ∷ []) b kids ts refl refl (arms_on c v d t ts)
 
-arms_two : (c : Place) (v d : ℕ) (t : List ℕ) (ts : Forest) → fill (arms [] ts) (close-brace ∷ []) ts ≡ going c (row kinds.MATCH v d t) 2 ts
+arms_two : (c : Place) (v d : ℕ) (t : List ℕ) (ts : Forest) → fill (arms [] ts) (close_brace ∷ []) ts ≡ going c (row kinds.MATCH v d t) 2 ts
 unfolding fill going before before_part under next behind end_of_part
 arms_two c v d t none = refl
-arms_two c v d t (tree b kids ts) = step c (row kinds.MATCH v d t) 2 (arms [] (tree b kids ts)) (close-brace ∷ []) b kids ts refl refl (arms_on c v d t ts)
+arms_two c v d t (tree b kids ts) = step c (row kinds.MATCH v d t) 2 (arms [] (tree b kids ts)) (close_brace ∷ []) b kids ts refl refl (arms_on c v d t ts)
 
-arms_first : (c : Place) (v d : ℕ) (t : List ℕ) (ts : Forest) → fill (arms (open-brace ∷ []) ts) (cond (empty ts) (open-brace ∷ close-brace ∷ []) (close-brace ∷ [])) ts ≡ going c (row kinds.MATCH v d t) 1 ts
+arms_first : (c : Place) (v d : ℕ) (t : List ℕ) (ts : Forest) → fill (arms (open_brace ∷ []) ts) (cond (empty ts) (open_brace ∷ close_brace ∷ []) (close_brace ∷ [])) ts ≡ going c (row kinds.MATCH v d t) 1 ts
 unfolding fill going before before_part under next behind end_of_part
 arms_first c v d t none = refl
-arms_first c v d t (tree b kids ts) = step c (row kinds.MATCH v d t) 1 (arms (open-brace ∷ []) (tree b kids ts)) (close-brace ∷ []) b kids ts refl refl (arms_two c v d t ts)
+arms_first c v d t (tree b kids ts) = step c (row kinds.MATCH v d t) 1 (arms (open_brace ∷ []) (tree b kids ts)) (close_brace ∷ []) b kids ts refl refl (arms_two c v d t ts)
 
 pub match_row : (c : Place) (v d : ℕ) (t : List ℕ) (ts : Forest) → Phased c (row kinds.MATCH v d t) ts
 unfolding layout layouts fill going before before_part under next behind end_of_part
 match_row c v d t none = refl
-match_row c v d t (tree b kids ts) = step c (row kinds.MATCH v d t) 0 ((('match' ∷ []) then head) ∷ arms (open-brace ∷ []) ts) (cond (empty ts) (open-brace ∷ close-brace ∷ []) (close-brace ∷ [])) b kids ts refl refl (arms_first c v d t ts)
+match_row c v d t (tree b kids ts) = step c (row kinds.MATCH v d t) 0 ((('match' ∷ []) then head) ∷ arms (open_brace ∷ []) ts) (cond (empty ts) (open_brace ∷ close_brace ∷ []) (close_brace ∷ [])) b kids ts refl refl (arms_first c v d t ts)
 
 -- an arm: what is behind its body depends on whether that is a block
 
@@ -225,12 +224,12 @@ arm_row c v d t ts = arm_by c v d t ts (eqb v 0) refl
 
 -- statements: what was the last one decides the words before the next and behind all
 
-between_so : (expr four : Bool) → cond (expr && not four) (semicolon ∷ []) [] ≡ in_phase (cond expr (cond four 2 3) 1) (open-brace ∷ []) [] [] (semicolon ∷ [])
+between_so : (expr four : Bool) → cond (expr && not four) (semicolon ∷ []) [] ≡ in_phase (cond expr (cond four 2 3) 1) (open_brace ∷ []) [] [] (semicolon ∷ [])
 between_so true true = refl
 between_so true false = refl
 between_so false four = refl
 
-behind_so : (expr four no_last : Bool) → cond (expr && no_last) (semicolon ∷ close-brace ∷ []) (close-brace ∷ []) ≡ cond no_last (in_phase (cond expr (cond four 2 3) 1) (open-brace ∷ close-brace ∷ []) (close-brace ∷ []) (semicolon ∷ close-brace ∷ []) (semicolon ∷ close-brace ∷ [])) (in_phase (cond expr (cond four 2 3) 1) (open-brace ∷ close-brace ∷ []) (close-brace ∷ []) (close-brace ∷ []) (close-brace ∷ []))
+behind_so : (expr four no_last : Bool) → cond (expr && no_last) (semicolon ∷ close_brace ∷ []) (close_brace ∷ []) ≡ cond no_last (in_phase (cond expr (cond four 2 3) 1) (open_brace ∷ close_brace ∷ []) (close_brace ∷ []) (semicolon ∷ close_brace ∷ []) (semicolon ∷ close_brace ∷ [])) (in_phase (cond expr (cond four 2 3) 1) (open_brace ∷ close_brace ∷ []) (close_brace ∷ []) (close_brace ∷ []) (close_brace ∷ []))
 behind_so true true true = refl
 behind_so true true false = refl
 behind_so true false true = refl
@@ -238,7 +237,7 @@ behind_so true false false = refl
 behind_so false four true = refl
 behind_so false four false = refl
 
-statements_on : (c : Place) (v d : ℕ) (t : List ℕ) (p : ℕ) (w : List ℕ) (a : Label) (i ts : Forest) → w ≡ in_phase p (open-brace ∷ []) [] [] (semicolon ∷ []) → fill (statements v w (tree a i ts)).slots (statements v w (tree a i ts)).last (tree a i ts) ≡ going c (row kinds.BLOCK v d t) p (tree a i ts)
+statements_on : (c : Place) (v d : ℕ) (t : List ℕ) (p : ℕ) (w : List ℕ) (a : Label) (i ts : Forest) → w ≡ in_phase p (open_brace ∷ []) [] [] (semicolon ∷ []) → fill (statements v w (tree a i ts)).slots (statements v w (tree a i ts)).last (tree a i ts) ≡ going c (row kinds.BLOCK v d t) p (tree a i ts)
 unfolding fill going before before_part under next behind end_of_part
 statements_on c v d t p w a i none h = step c (row kinds.BLOCK v d t) p ((w then canon.statement a.kind) ∷ []) (canon.behind v a.kind) a i none h refl (ap signs (behind_so (is_expr a.kind) (is_four a.kind) (eqb v 0)))
 statements_on c v d t p w a i (tree b j ts) h = step c (row kinds.BLOCK v d t) p (statements v w (tree a i (tree b j ts))).slots (statements v w (tree a i (tree b j ts))).last a i (tree b j ts) h refl (statements_on c v d t (cond (is_expr a.kind) (cond (is_four a.kind) 2 3) 1) (between a.kind) b j ts (between_so (is_expr a.kind) (is_four a.kind)))
@@ -249,8 +248,8 @@ alike false x = refl
 
 pub block : (c : Place) (v d : ℕ) (t : List ℕ) (ts : Forest) → Phased c (row kinds.BLOCK v d t) ts
 unfolding layout layouts fill going behind end_of_part
-block c v d t none = ap signs (alike (eqb v 0) (open-brace ∷ close-brace ∷ []))
-block c v d t (tree a i ts) = statements_on c v d t 0 (open-brace ∷ []) a i ts refl
+block c v d t none = ap signs (alike (eqb v 0) (open_brace ∷ close_brace ∷ []))
+block c v d t (tree a i ts) = statements_on c v d t 0 (open_brace ∷ []) a i ts refl
 
 -- params, perhaps a result, the block
 
@@ -262,14 +261,14 @@ record Headed (c : Place) (a : Label) (w : ℕ) (result : Bool) : Type 0 where
 
 abbrev by_param : ℕ → Bool → ℕ → Bool → List ℕ
 by_param w result p q =
-    cond q (in_phase p (w ∷ []) (open-paren ∷ []) (comma ∷ []) [])
-    (cond result (in_phase p (w ∷ []) (open-paren ∷ close-paren ∷ '->' ∷ []) (close-paren ∷ '->' ∷ []) []) (in_phase p (w ∷ []) (open-paren ∷ close-paren ∷ []) (close-paren ∷ []) []))
+    cond q (in_phase p (w ∷ []) (open_paren ∷ []) (comma ∷ []) [])
+    (cond result (in_phase p (w ∷ []) (open_paren ∷ close_paren ∷ '->' ∷ []) (close_paren ∷ '->' ∷ []) []) (in_phase p (w ∷ []) (open_paren ∷ close_paren ∷ []) (close_paren ∷ []) []))
 
 abbrev past_param : ℕ → Bool → ℕ
 past_param p q = cond q (in_phase p 1 2 2 3) (in_phase p 1 3 3 3)
 
 behind_all : (c : Place) (a : Label) (w : ℕ) (result : Bool) → Headed c a w result → Steady c a 3 [] whole 3 []
-behind_all c a w result h = steady c a 3 [] whole 3 [] (λ (k : ℕ). quiet_words result (eqb k kinds.TYPED-NAME) ∙ h.words 3 k) (λ (k : ℕ) (m : Bool). h.place 3 k m) (λ (k : ℕ). last_phase (eqb k kinds.TYPED-NAME) ∙ h.phase 3 k) (h.end 3)
+behind_all c a w result h = steady c a 3 [] whole 3 [] (λ (k : ℕ). quiet_words result (eqb k kinds.TYPED_NAME) ∙ h.words 3 k) (λ (k : ℕ) (m : Bool). h.place 3 k m) (λ (k : ℕ). last_phase (eqb k kinds.TYPED_NAME) ∙ h.phase 3 k) (h.end 3)
   where
     quiet_words : (r q : Bool) → [] ≡ by_param w r 3 q
     quiet_words r true = refl
@@ -284,23 +283,23 @@ result_behind : (c : Place) (a : Label) (w : ℕ) (result : Bool) → Headed c a
 result_behind c a w result h = on c a 3 (([] then whole) ∷ []) 3 [] (behind_all c a w result h) (stuck c a 3 [] (behind_all c a w result h))
 
 -- a child behind the name, given those after it
-headed_step : (c : Place) (a : Label) (w : ℕ) (result : Bool) → Headed c a w result → (bare param : Bool) (b : Label) (i ts : Forest) → param ≡ eqb b.kind kinds.TYPED-NAME → fill (headed result false ts) [] ts ≡ going c a 2 ts → fill (cond param ((cond bare (open-paren ∷ []) (comma ∷ []) then whole) ∷ headed result false ts) (cond result ((closing bare ++ ('->' ∷ []) then whole) ∷ ([] then whole) ∷ []) ((closing bare then whole) ∷ []))) [] (tree b i ts) ≡ going c a (cond bare 1 2) (tree b i ts)
-headed_step c a w result h true true b i ts e j = step c a 1 (((open-paren ∷ []) then whole) ∷ headed result false ts) [] b i ts (ap (by_param w result 1) e ∙ h.words 1 b.kind) (h.place 1 b.kind (not (empty ts))) (j ∙ ap (λ (n : ℕ). going c a n ts) (ap (past_param 1) e ∙ h.phase 1 b.kind))
+headed_step : (c : Place) (a : Label) (w : ℕ) (result : Bool) → Headed c a w result → (bare param : Bool) (b : Label) (i ts : Forest) → param ≡ eqb b.kind kinds.TYPED_NAME → fill (headed result false ts) [] ts ≡ going c a 2 ts → fill (cond param ((cond bare (open_paren ∷ []) (comma ∷ []) then whole) ∷ headed result false ts) (cond result ((closing bare ++ ('->' ∷ []) then whole) ∷ ([] then whole) ∷ []) ((closing bare then whole) ∷ []))) [] (tree b i ts) ≡ going c a (cond bare 1 2) (tree b i ts)
+headed_step c a w result h true true b i ts e j = step c a 1 (((open_paren ∷ []) then whole) ∷ headed result false ts) [] b i ts (ap (by_param w result 1) e ∙ h.words 1 b.kind) (h.place 1 b.kind (not (empty ts))) (j ∙ ap (λ (n : ℕ). going c a n ts) (ap (past_param 1) e ∙ h.phase 1 b.kind))
 headed_step c a w result h false true b i ts e j = step c a 2 (((comma ∷ []) then whole) ∷ headed result false ts) [] b i ts (ap (by_param w result 2) e ∙ h.words 2 b.kind) (h.place 2 b.kind (not (empty ts))) (j ∙ ap (λ (n : ℕ). going c a n ts) (ap (past_param 2) e ∙ h.phase 2 b.kind))
-headed_step c a w true h true false b i ts e j = step c a 1 (((open-paren ∷ close-paren ∷ '->' ∷ []) then whole) ∷ ([] then whole) ∷ []) [] b i ts (ap (by_param w true 1) e ∙ h.words 1 b.kind) (h.place 1 b.kind (not (empty ts))) (result_behind c a w true h ts ∙ ap (λ (n : ℕ). going c a n ts) (ap (past_param 1) e ∙ h.phase 1 b.kind))
-headed_step c a w true h false false b i ts e j = step c a 2 (((close-paren ∷ '->' ∷ []) then whole) ∷ ([] then whole) ∷ []) [] b i ts (ap (by_param w true 2) e ∙ h.words 2 b.kind) (h.place 2 b.kind (not (empty ts))) (result_behind c a w true h ts ∙ ap (λ (n : ℕ). going c a n ts) (ap (past_param 2) e ∙ h.phase 2 b.kind))
-headed_step c a w false h true false b i ts e j = step c a 1 (((open-paren ∷ close-paren ∷ []) then whole) ∷ []) [] b i ts (ap (by_param w false 1) e ∙ h.words 1 b.kind) (h.place 1 b.kind (not (empty ts))) (stuck c a 3 [] (behind_all c a w false h) ts ∙ ap (λ (n : ℕ). going c a n ts) (ap (past_param 1) e ∙ h.phase 1 b.kind))
-headed_step c a w false h false false b i ts e j = step c a 2 (((close-paren ∷ []) then whole) ∷ []) [] b i ts (ap (by_param w false 2) e ∙ h.words 2 b.kind) (h.place 2 b.kind (not (empty ts))) (stuck c a 3 [] (behind_all c a w false h) ts ∙ ap (λ (n : ℕ). going c a n ts) (ap (past_param 2) e ∙ h.phase 2 b.kind))
+headed_step c a w true h true false b i ts e j = step c a 1 (((open_paren ∷ close_paren ∷ '->' ∷ []) then whole) ∷ ([] then whole) ∷ []) [] b i ts (ap (by_param w true 1) e ∙ h.words 1 b.kind) (h.place 1 b.kind (not (empty ts))) (result_behind c a w true h ts ∙ ap (λ (n : ℕ). going c a n ts) (ap (past_param 1) e ∙ h.phase 1 b.kind))
+headed_step c a w true h false false b i ts e j = step c a 2 (((close_paren ∷ '->' ∷ []) then whole) ∷ ([] then whole) ∷ []) [] b i ts (ap (by_param w true 2) e ∙ h.words 2 b.kind) (h.place 2 b.kind (not (empty ts))) (result_behind c a w true h ts ∙ ap (λ (n : ℕ). going c a n ts) (ap (past_param 2) e ∙ h.phase 2 b.kind))
+headed_step c a w false h true false b i ts e j = step c a 1 (((open_paren ∷ close_paren ∷ []) then whole) ∷ []) [] b i ts (ap (by_param w false 1) e ∙ h.words 1 b.kind) (h.place 1 b.kind (not (empty ts))) (stuck c a 3 [] (behind_all c a w false h) ts ∙ ap (λ (n : ℕ). going c a n ts) (ap (past_param 1) e ∙ h.phase 1 b.kind))
+headed_step c a w false h false false b i ts e j = step c a 2 (((close_paren ∷ []) then whole) ∷ []) [] b i ts (ap (by_param w false 2) e ∙ h.words 2 b.kind) (h.place 2 b.kind (not (empty ts))) (stuck c a 3 [] (behind_all c a w false h) ts ∙ ap (λ (n : ℕ). going c a n ts) (ap (past_param 2) e ∙ h.phase 2 b.kind))
 
 headed_on : (c : Place) (a : Label) (w : ℕ) (result : Bool) → Headed c a w result → (bare : Bool) (ts : Forest) → fill (headed result bare ts) [] ts ≡ going c a (cond bare 1 2) ts
 unfolding fill going
 headed_on c a w result h bare none = ap signs (h.end (cond bare 1 2))
-headed_on c a w result h bare (tree b i ts) = headed_step c a w result h bare (eqb b.kind kinds.TYPED-NAME) b i ts refl (headed_on c a w result h false ts)
+headed_on c a w result h bare (tree b i ts) = headed_step c a w result h bare (eqb b.kind kinds.TYPED_NAME) b i ts refl (headed_on c a w result h false ts)
 
 headed_all : (c : Place) (a : Label) (w : ℕ) (result : Bool) → Headed c a w result → (ts : Forest) → fill (((w ∷ []) then whole) ∷ headed result true (rest ts)) [] ts ≡ going c a 0 ts
 unfolding fill going
 headed_all c a w result h none = ap signs (h.end 0)
-headed_all c a w result h (tree b i ts) = step c a 0 (((w ∷ []) then whole) ∷ headed result true ts) [] b i ts (first_word result (eqb b.kind kinds.TYPED-NAME) ∙ h.words 0 b.kind) (h.place 0 b.kind (not (empty ts))) (headed_on c a w result h true ts ∙ ap (λ (n : ℕ). going c a n ts) (first_phase (eqb b.kind kinds.TYPED-NAME) ∙ h.phase 0 b.kind))
+headed_all c a w result h (tree b i ts) = step c a 0 (((w ∷ []) then whole) ∷ headed result true ts) [] b i ts (first_word result (eqb b.kind kinds.TYPED_NAME) ∙ h.words 0 b.kind) (h.place 0 b.kind (not (empty ts))) (headed_on c a w result h true ts ∙ ap (λ (n : ℕ). going c a n ts) (first_phase (eqb b.kind kinds.TYPED_NAME) ∙ h.phase 0 b.kind))
   where
     first_word : (r q : Bool) → (w ∷ []) ≡ by_param w r 0 q
     first_word r true = refl
@@ -322,33 +321,33 @@ filter_row c v d t ts = headed_all c (row kinds.FILTER v d t) (nth filter_words 
 -- import paths: a name or a path of the group, given those after it
 
 abbrev by_name : ℕ → Bool → List ℕ
-by_name p q = cond q (in_phase p [] (dot ∷ []) (dot ∷ []) (dot ∷ [])) (in_phase p (dot ∷ open-brace ∷ []) (dot ∷ open-brace ∷ []) (comma ∷ []) (dot ∷ open-brace ∷ []))
+by_name p q = cond q (in_phase p [] (dot ∷ []) (dot ∷ []) (dot ∷ [])) (in_phase p (dot ∷ open_brace ∷ []) (dot ∷ open_brace ∷ []) (comma ∷ []) (dot ∷ open_brace ∷ []))
 
-imports_step : (c : Place) (v d : ℕ) (t : List ℕ) (p : ℕ) (name : Bool) (b : Label) (i ts : Forest) → name ≡ eqb b.kind kinds.NAME → fill (imports false false ts).slots (imports false false ts).last ts ≡ going c (row kinds.IMPORT-PATH v d t) 1 ts → fill (imports false true ts).slots (imports false true ts).last ts ≡ going c (row kinds.IMPORT-PATH v d t) 2 ts → fill ((by_name p name then whole) ∷ (imports false (not name) ts).slots) (imports false (not name) ts).last (tree b i ts) ≡ going c (row kinds.IMPORT-PATH v d t) p (tree b i ts)
+imports_step : (c : Place) (v d : ℕ) (t : List ℕ) (p : ℕ) (name : Bool) (b : Label) (i ts : Forest) → name ≡ eqb b.kind kinds.NAME → fill (imports false false ts).slots (imports false false ts).last ts ≡ going c (row kinds.IMPORT_PATH v d t) 1 ts → fill (imports false true ts).slots (imports false true ts).last ts ≡ going c (row kinds.IMPORT_PATH v d t) 2 ts → fill ((by_name p name then whole) ∷ (imports false (not name) ts).slots) (imports false (not name) ts).last (tree b i ts) ≡ going c (row kinds.IMPORT_PATH v d t) p (tree b i ts)
 unfolding before before_item under under_operand next
-imports_step c v d t p true b i ts e j l = step c (row kinds.IMPORT-PATH v d t) p ((by_name p true then whole) ∷ (imports false false ts).slots) (imports false false ts).last b i ts (ap (by_name p) e) refl (j ∙ ap (λ (q : Bool). going c (row kinds.IMPORT-PATH v d t) (cond q 1 2) ts) e)
-imports_step c v d t p false b i ts e j l = step c (row kinds.IMPORT-PATH v d t) p ((by_name p false then whole) ∷ (imports false true ts).slots) (imports false true ts).last b i ts (ap (by_name p) e) refl (l ∙ ap (λ (q : Bool). going c (row kinds.IMPORT-PATH v d t) (cond q 1 2) ts) e)
+imports_step c v d t p true b i ts e j l = step c (row kinds.IMPORT_PATH v d t) p ((by_name p true then whole) ∷ (imports false false ts).slots) (imports false false ts).last b i ts (ap (by_name p) e) refl (j ∙ ap (λ (q : Bool). going c (row kinds.IMPORT_PATH v d t) (cond q 1 2) ts) e)
+imports_step c v d t p false b i ts e j l = step c (row kinds.IMPORT_PATH v d t) p ((by_name p false then whole) ∷ (imports false true ts).slots) (imports false true ts).last b i ts (ap (by_name p) e) refl (l ∙ ap (λ (q : Bool). going c (row kinds.IMPORT_PATH v d t) (cond q 1 2) ts) e)
 
 abbrev imported : Bool → Bool → Bool → Forest → Layout
-imported first group name ts = cond name (canon.and_then (cond first [] (dot ∷ []) then whole) (imports false false ts)) (canon.and_then (cond group (comma ∷ []) (dot ∷ open-brace ∷ []) then whole) (imports false true ts))
+imported first group name ts = cond name (canon.and_then (cond first [] (dot ∷ []) then whole) (imports false false ts)) (canon.and_then (cond group (comma ∷ []) (dot ∷ open_brace ∷ []) then whole) (imports false true ts))
 
-imported_first : (c : Place) (v d : ℕ) (t : List ℕ) (name : Bool) (b : Label) (i ts : Forest) → name ≡ eqb b.kind kinds.NAME → fill (imports false false ts).slots (imports false false ts).last ts ≡ going c (row kinds.IMPORT-PATH v d t) 1 ts → fill (imports false true ts).slots (imports false true ts).last ts ≡ going c (row kinds.IMPORT-PATH v d t) 2 ts → fill (imported true false name ts).slots (imported true false name ts).last (tree b i ts) ≡ going c (row kinds.IMPORT-PATH v d t) 0 (tree b i ts)
+imported_first : (c : Place) (v d : ℕ) (t : List ℕ) (name : Bool) (b : Label) (i ts : Forest) → name ≡ eqb b.kind kinds.NAME → fill (imports false false ts).slots (imports false false ts).last ts ≡ going c (row kinds.IMPORT_PATH v d t) 1 ts → fill (imports false true ts).slots (imports false true ts).last ts ≡ going c (row kinds.IMPORT_PATH v d t) 2 ts → fill (imported true false name ts).slots (imported true false name ts).last (tree b i ts) ≡ going c (row kinds.IMPORT_PATH v d t) 0 (tree b i ts)
 imported_first c v d t true b i ts e j l = imports_step c v d t 0 true b i ts e j l
 imported_first c v d t false b i ts e j l = imports_step c v d t 0 false b i ts e j l
 
-imported_later : (c : Place) (v d : ℕ) (t : List ℕ) (group name : Bool) (b : Label) (i ts : Forest) → name ≡ eqb b.kind kinds.NAME → fill (imports false false ts).slots (imports false false ts).last ts ≡ going c (row kinds.IMPORT-PATH v d t) 1 ts → fill (imports false true ts).slots (imports false true ts).last ts ≡ going c (row kinds.IMPORT-PATH v d t) 2 ts → fill (imported false group name ts).slots (imported false group name ts).last (tree b i ts) ≡ going c (row kinds.IMPORT-PATH v d t) (cond group 2 1) (tree b i ts)
+imported_later : (c : Place) (v d : ℕ) (t : List ℕ) (group name : Bool) (b : Label) (i ts : Forest) → name ≡ eqb b.kind kinds.NAME → fill (imports false false ts).slots (imports false false ts).last ts ≡ going c (row kinds.IMPORT_PATH v d t) 1 ts → fill (imports false true ts).slots (imports false true ts).last ts ≡ going c (row kinds.IMPORT_PATH v d t) 2 ts → fill (imported false group name ts).slots (imported false group name ts).last (tree b i ts) ≡ going c (row kinds.IMPORT_PATH v d t) (cond group 2 1) (tree b i ts)
 imported_later c v d t true true b i ts e j l = imports_step c v d t 2 true b i ts e j l
 imported_later c v d t true false b i ts e j l = imports_step c v d t 2 false b i ts e j l
 imported_later c v d t false true b i ts e j l = imports_step c v d t 1 true b i ts e j l
 imported_later c v d t false false b i ts e j l = imports_step c v d t 1 false b i ts e j l
 
-imports_on : (c : Place) (v d : ℕ) (t : List ℕ) (group : Bool) (ts : Forest) → fill (imports false group ts).slots (imports false group ts).last ts ≡ going c (row kinds.IMPORT-PATH v d t) (cond group 2 1) ts
+imports_on : (c : Place) (v d : ℕ) (t : List ℕ) (group : Bool) (ts : Forest) → fill (imports false group ts).slots (imports false group ts).last ts ≡ going c (row kinds.IMPORT_PATH v d t) (cond group 2 1) ts
 unfolding fill going behind end_of_item
 imports_on c v d t true none = refl
 imports_on c v d t false none = refl
 imports_on c v d t group (tree b i ts) = imported_later c v d t group (eqb b.kind kinds.NAME) b i ts refl (imports_on c v d t false ts) (imports_on c v d t true ts)
 
-pub import_path : (c : Place) (v d : ℕ) (t : List ℕ) (ts : Forest) → Phased c (row kinds.IMPORT-PATH v d t) ts
+pub import_path : (c : Place) (v d : ℕ) (t : List ℕ) (ts : Forest) → Phased c (row kinds.IMPORT_PATH v d t) ts
 unfolding layout layouts fill going behind end_of_item
 import_path c v d t none = refl
 import_path c v d t (tree b i ts) = imported_first c v d t (eqb b.kind kinds.NAME) b i ts refl (imports_on c v d t false ts) (imports_on c v d t true ts)

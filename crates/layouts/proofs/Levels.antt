@@ -4,14 +4,13 @@ use mathlib.Core.Bool.{Bool, true, false, cond}
 use Prim.Native.Nat.{ℕ, ◌+◌, ◌<◌, ◌≤◌}
 use lib.Dec.{eqb}
 use native.Mathlib.Omega.{arith}
-use Rattle.rows.specs.Kinds.{kinds}
+use Rattle.rows.specs.Kinds as kinds
 use mathlib.Core.List.{[], ◌∷◌}
-use Rattle.grammar.specs.Words.{four_words, words}
+use Rattle.grammar.specs.Words.{open_brace, four_words}
 use Rattle.canon.specs.Layout as canon
 use Rattle.places.proofs.Placed.{binary_small}
 use Rattle.places.specs.Under.{under, under_operand}
 use Rattle.layouts.proofs.Steps.{chosen}
-open words use {open-brace}
 
 record Low (c : canon.Place) : Type 0 where
   low : c.level < 8
@@ -57,7 +56,7 @@ under_so k v d c p child more =
     (either (eqb k kinds.WHILE) (either (eqb p 0) head_low whole_low)
     (either (eqb k kinds.FOR) (either (eqb p 1) head_low whole_low)
     (either (eqb k kinds.MATCH) (either (eqb p 0) head_low (asks_low (canon.with_more more) 0 refl (omega arith)))
-    (either (eqb k kinds.ARM) (either (eqb p (cond (eqb v 0) 1 2)) (either (eqb child kinds.BLOCK) whole_low (asks_low (canon.asks 0 true (open-brace ∷ [])) 0 refl (omega arith))) whole_low)
+    (either (eqb k kinds.ARM) (either (eqb p (cond (eqb v 0) 1 2)) (either (eqb child kinds.BLOCK) whole_low (asks_low (canon.asks 0 true (open_brace ∷ [])) 0 refl (omega arith))) whole_low)
     (either (eqb k kinds.BLOCK) (either (canon.is_four child) whole_low (asks_low (canon.asks 0 true four_words) 0 refl (omega arith))) (operand_low k d c p))))))
 
 pub under_low : (k v d : ℕ) (c : canon.Place) (p child : ℕ) (more : Bool) (x : canon.Place) → x ≡ under k v d c p child more → x.level < 8

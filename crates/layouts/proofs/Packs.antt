@@ -1,10 +1,10 @@
 -- Words in one number: phase by phase, as they are said, with a `)` behind them, and with a place.
-use mathlib.Core.Path.{◌≡◌, refl, sym, ap, subst, ◌∙◌}
+use mathlib.Core.Path.{◌≡◌, refl, sym, ap, ◌∙◌}
 use mathlib.Core.List.{List, [], ◌∷◌, ◌++◌, append_assoc}
 use mathlib.Core.Logic.{◌≢◌}
 use mathlib.Core.Bool.{Bool, true, false, cond}
 use Prim.Native.Nat.{ℕ, zero, suc, pred, ◌+◌, ◌*◌, ◌/◌, ◌%◌, ◌<◌, ◌≤◌}
-use lib.Dec.{T, eqb, eqb→eq}
+use lib.Dec.{eqb}
 use lib.ListN.{length}
 use native.Mathlib.Omega.{arith}
 use borrow.Author.Tests.{ne_eqb}
@@ -13,7 +13,7 @@ use Rattle.canon.specs.Text.{Bit, sign}
 use Rattle.sink.specs.Told.{digit, said}
 use Rattle.places.specs.Meant.{unless_of}
 use Rattle.layouts.specs.Phases.{in_phase}
-use Rattle.layouts.specs.Packed.{packed, past_three, place_in}
+use Rattle.layouts.specs.Packed.{packed, place_in}
 
 pub packed_in : (p : ℕ) (a b c d : List ℕ) → in_phase p (packed a) (packed b) (packed c) (packed d) ≡ packed (in_phase p a b c d)
 packed_in p a b c d = go (eqb p 0) (eqb p 1) (eqb p 2)
@@ -143,8 +143,3 @@ place_back w l u x y z r p m ws hw hl hu hx hy hz e =
 
     digit_u : (l x y z u : ℕ) → l < 8 → x < 2 → y < 2 → z < 2 → u < 4 → (l + 8 * (x + 2 * (y + 2 * (z + 2 * u)))) / 64 % 4 ≡ u
     digit_u l x y z u a b d e f = omega (arith, a, b, d, e, f)
-
--- the number of the place that asks nothing
-pub whole_in : (n : ℕ) → eqb (n / past_three) 24 ≡ true → place_in n ≡ canon.whole
-unfolding place_in
-whole_in n e = ap (λ (c : ℕ). record { level = c % 8; records = eqb (c / 8 % 2) 1; path = eqb (c / 16 % 2) 1; unless = unless_of (c / 64 % 4); more = eqb (c / 32 % 2) 1 }) (eqb→eq (n / past_three) 24 (subst T (sym e) tt))

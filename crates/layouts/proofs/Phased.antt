@@ -4,7 +4,7 @@ use mathlib.Core.List.{List, [], ◌∷◌}
 use mathlib.Core.Bool.{Bool, true, false, cond}
 use Prim.Native.Nat.{ℕ}
 use lib.Dec.{eqb, eqb→eq, ltb}
-use Rattle.rows.specs.Kinds.{kinds}
+use Rattle.rows.specs.Kinds as kinds
 use Rattle.grammar.specs.Grammar.{one_of}
 use Rattle.canon.specs.Trees.{Label, Forest, none, tree, copied}
 use Rattle.canon.specs.Layout.{Place, whole, needs, Layout, Entry, layouts, layout_in, layout, done}
@@ -42,9 +42,9 @@ record Other (k : ℕ) : Type 0 where
   n3 : eqb k kinds.NEVER ≡ false
   n4 : eqb k kinds.UNIT ≡ false
   n5 : eqb k kinds.OPTION ≡ false
-  n6 : eqb k kinds.PATH-TYPE ≡ false
-  n7 : eqb k kinds.RECORD-TYPE ≡ false
-  n8 : eqb k kinds.TYPED-NAME ≡ false
+  n6 : eqb k kinds.PATH_TYPE ≡ false
+  n7 : eqb k kinds.RECORD_TYPE ≡ false
+  n8 : eqb k kinds.TYPED_NAME ≡ false
   n20 : eqb k kinds.BINARY ≡ false
   n21 : eqb k kinds.NOT ≡ false
   n22 : eqb k kinds.NEGATE ≡ false
@@ -68,7 +68,7 @@ record Other (k : ℕ) : Type 0 where
   n41 : eqb k kinds.FN ≡ false
   n42 : eqb k kinds.TEST ≡ false
   n43 : eqb k kinds.TREE ≡ false
-  n44 : eqb k kinds.IMPORT-PATH ≡ false
+  n44 : eqb k kinds.IMPORT_PATH ≡ false
   n45 : eqb k kinds.FILTER ≡ false
 
 no_words : (k v d p child : ℕ) → Other k → [] ≡ before k v d p child
@@ -105,12 +105,12 @@ phased c a ts =
           λ (n4 : eqb a.kind kinds.UNIT ≡ false). (
             (λ (e : a.kind ≡ kinds.OPTION). of_kind c a kinds.OPTION _ ts e (option c a.value a.detail a.text ts)),
             λ (n5 : eqb a.kind kinds.OPTION ≡ false). (
-              (λ (e : a.kind ≡ kinds.PATH-TYPE). of_kind c a kinds.PATH-TYPE _ ts e (path_type c a.value a.detail a.text ts)),
-              λ (n6 : eqb a.kind kinds.PATH-TYPE ≡ false). (
-                (λ (e : a.kind ≡ kinds.RECORD-TYPE). of_kind c a kinds.RECORD-TYPE _ ts e (record_type c a.value a.detail a.text ts)),
-                λ (n7 : eqb a.kind kinds.RECORD-TYPE ≡ false). (
-                  (λ (e : a.kind ≡ kinds.TYPED-NAME). of_kind c a kinds.TYPED-NAME _ ts e (typed_name c a.value a.detail a.text ts)),
-                  λ (n8 : eqb a.kind kinds.TYPED-NAME ≡ false). (
+              (λ (e : a.kind ≡ kinds.PATH_TYPE). of_kind c a kinds.PATH_TYPE _ ts e (path_type c a.value a.detail a.text ts)),
+              λ (n6 : eqb a.kind kinds.PATH_TYPE ≡ false). (
+                (λ (e : a.kind ≡ kinds.RECORD_TYPE). of_kind c a kinds.RECORD_TYPE _ ts e (record_type c a.value a.detail a.text ts)),
+                λ (n7 : eqb a.kind kinds.RECORD_TYPE ≡ false). (
+                  (λ (e : a.kind ≡ kinds.TYPED_NAME). of_kind c a kinds.TYPED_NAME _ ts e (typed_name c a.value a.detail a.text ts)),
+                  λ (n8 : eqb a.kind kinds.TYPED_NAME ≡ false). (
                     (λ (e : a.kind ≡ kinds.BINARY). of_kind c a kinds.BINARY _ ts e (binary c a.value a.detail a.text ts)),
                     λ (n20 : eqb a.kind kinds.BINARY ≡ false). (
                       (λ (e : a.kind ≡ kinds.NOT). of_kind c a kinds.NOT _ ts e (not_row c a.value a.detail a.text ts)),
@@ -157,8 +157,8 @@ phased c a ts =
                                                               λ (n42 : eqb a.kind kinds.TEST ≡ false). (
                                                                 (λ (e : a.kind ≡ kinds.TREE). of_kind c a kinds.TREE _ ts e (the_tree c a.value a.detail a.text ts)),
                                                                 λ (n43 : eqb a.kind kinds.TREE ≡ false). (
-                                                                  (λ (e : a.kind ≡ kinds.IMPORT-PATH). of_kind c a kinds.IMPORT-PATH _ ts e (import_path c a.value a.detail a.text ts)),
-                                                                  λ (n44 : eqb a.kind kinds.IMPORT-PATH ≡ false). (
+                                                                  (λ (e : a.kind ≡ kinds.IMPORT_PATH). of_kind c a kinds.IMPORT_PATH _ ts e (import_path c a.value a.detail a.text ts)),
+                                                                  λ (n44 : eqb a.kind kinds.IMPORT_PATH ≡ false). (
                                                                     (λ (e : a.kind ≡ kinds.FILTER). of_kind c a kinds.FILTER _ ts e (filter_row c a.value a.detail a.text ts)),
                                                                     λ (n45 : eqb a.kind kinds.FILTER ≡ false).
                                                                         other c a 0 ts (record { n2 = n2; n3 = n3; n4 = n4; n5 = n5; n6 = n6; n7 = n7; n8 = n8; n20 = n20; n21 = n21; n22 = n22; n23 = n23; n24 = n24; n25 = n25; n26 = n26; n27 = n27; n28 = n28; n29 = n29; n30 = n30; n31 = n31; n32 = n32; n34 = n34; n35 = n35; n36 = n36; n37 = n37; n38 = n38; n39 = n39; n40 = n40; n41 = n41; n42 = n42; n43 = n43; n44 = n44; n45 = n45 }),

@@ -6,8 +6,8 @@ use Prim.Native.Nat.{ℕ, pred, ◌<◌, ◌≤◌}
 use lib.Dec.{eqb, ltb}
 use native.Mathlib.Omega.{arith}
 use borrow.Author.Tests.{ltb-true, lt-ltb, le-ltb}
-use Rattle.rows.specs.Kinds.{kinds}
-use Rattle.grammar.specs.Words.{assign_signs, binary_signs, return_words, filter_words, words}
+use Rattle.rows.specs.Kinds as kinds
+use Rattle.grammar.specs.Words.{'=>', '->', open_brace, close_brace, open_paren, close_paren, open_bracket, close_bracket, ':', semicolon, comma, dot, '=', '?', '!', '-', 'const', 'else', 'for', 'fn', 'if', 'import', 'in', 'let', 'match', 'test', 'while', assign_signs, binary_signs, return_words, filter_words}
 use Rattle.grammar.specs.Grammar.{one_of}
 use Rattle.canon.specs.Layout as canon
 use Rattle.canon.specs.Text.{signs}
@@ -15,7 +15,6 @@ use Rattle.sink.specs.Told.{said}
 use Rattle.layouts.specs.Phases.{in_phase, before_type, before_operand, before_part, before_item, before, end_of_type, end_of_operand, end_of_part, end_of_item, behind}
 use Rattle.layouts.specs.Packed.{packed, past_two, past_three}
 use Rattle.layouts.proofs.Steps.{chosen}
-open words use {'=>', '->', open-brace, close-brace, open-paren, close-paren, open-bracket, close-bracket, ':', semicolon, comma, dot, '=', '?', '!', '-', 'const', 'else', 'for', 'fn', 'if', 'import', 'in', 'let', 'match', 'test', 'while'}
 
 -- as a number below n
 record Fine (n : ℕ) (ws : List ℕ) : Type 0 where
@@ -72,9 +71,9 @@ type_words : (k v p : ℕ) → Fine past_three (before_type k v p)
 unfolding before_type packed
 type_words k v p =
     (either (eqb k kinds.PATH) (phases p (leaf_three [] refl refl) (leaf_three (dot ∷ []) refl refl) (leaf_three (dot ∷ []) refl refl) (leaf_three (dot ∷ []) refl refl))
-    (either (eqb k kinds.PATH-TYPE) (either (eqb v 0) (leaf_three [] refl refl) (phases p (leaf_three [] refl refl) (leaf_three (open-bracket ∷ []) refl refl) (leaf_three (comma ∷ []) refl refl) (leaf_three (comma ∷ []) refl refl)))
-    (either (eqb k kinds.RECORD-TYPE) (phases p (leaf_three (open-brace ∷ []) refl refl) (leaf_three (comma ∷ []) refl refl) (leaf_three (comma ∷ []) refl refl) (leaf_three (comma ∷ []) refl refl))
-    (either (eqb k kinds.TYPED-NAME) (phases p (leaf_three [] refl refl) (leaf_three (':' ∷ []) refl refl) (leaf_three [] refl refl) (leaf_three [] refl refl))
+    (either (eqb k kinds.PATH_TYPE) (either (eqb v 0) (leaf_three [] refl refl) (phases p (leaf_three [] refl refl) (leaf_three (open_bracket ∷ []) refl refl) (leaf_three (comma ∷ []) refl refl) (leaf_three (comma ∷ []) refl refl)))
+    (either (eqb k kinds.RECORD_TYPE) (phases p (leaf_three (open_brace ∷ []) refl refl) (leaf_three (comma ∷ []) refl refl) (leaf_three (comma ∷ []) refl refl) (leaf_three (comma ∷ []) refl refl))
+    (either (eqb k kinds.TYPED_NAME) (phases p (leaf_three [] refl refl) (leaf_three (':' ∷ []) refl refl) (leaf_three [] refl refl) (leaf_three [] refl refl))
     (leaf_three [] refl refl)))))
 
 operand_words : (k d p : ℕ) → Fine past_three (before_operand k d p)
@@ -83,7 +82,7 @@ operand_words k d p =
     (either (eqb k kinds.BINARY) (phases p (leaf_three [] refl refl) (signed_three binary_signs binary_three (pred d)) (leaf_three [] refl refl) (leaf_three [] refl refl))
     (either (eqb k kinds.NOT) (phases p (leaf_three ('!' ∷ []) refl refl) (leaf_three [] refl refl) (leaf_three [] refl refl) (leaf_three [] refl refl))
     (either (eqb k kinds.NEGATE) (phases p (leaf_three ('-' ∷ []) refl refl) (leaf_three [] refl refl) (leaf_three [] refl refl) (leaf_three [] refl refl))
-    (either (eqb k kinds.CALL) (phases p (leaf_three [] refl refl) (leaf_three (open-paren ∷ []) refl refl) (leaf_three (comma ∷ []) refl refl) (leaf_three (comma ∷ []) refl refl))
+    (either (eqb k kinds.CALL) (phases p (leaf_three [] refl refl) (leaf_three (open_paren ∷ []) refl refl) (leaf_three (comma ∷ []) refl refl) (leaf_three (comma ∷ []) refl refl))
     (either (eqb k kinds.ACCESS) (phases p (leaf_three [] refl refl) (leaf_three (dot ∷ []) refl refl) (leaf_three [] refl refl) (leaf_three [] refl refl))
     (either (eqb k kinds.ASSIGN) (phases p (leaf_three [] refl refl) (signed_three assign_signs assign_three d) (leaf_three [] refl refl) (leaf_three [] refl refl))
     (either (eqb k kinds.RETURN) (phases p (signed_three return_words return_three (pred d)) (leaf_three [] refl refl) (leaf_three [] refl refl) (leaf_three [] refl refl))
@@ -95,11 +94,11 @@ part_words k v p =
     (either (eqb k kinds.IF) (phases p (leaf_three ('if' ∷ []) refl refl) (leaf_three [] refl refl) (leaf_three ('else' ∷ []) refl refl) (leaf_three [] refl refl))
     (either (eqb k kinds.WHILE) (phases p (leaf_three ('while' ∷ []) refl refl) (leaf_three [] refl refl) (leaf_three [] refl refl) (leaf_three [] refl refl))
     (either (eqb k kinds.FOR) (phases p (leaf_three ('for' ∷ []) refl refl) (leaf_three ('in' ∷ []) refl refl) (leaf_three [] refl refl) (leaf_three [] refl refl))
-    (either (eqb k kinds.MATCH) (phases p (leaf_three ('match' ∷ []) refl refl) (leaf_three (open-brace ∷ []) refl refl) (leaf_three [] refl refl) (leaf_three [] refl refl))
+    (either (eqb k kinds.MATCH) (phases p (leaf_three ('match' ∷ []) refl refl) (leaf_three (open_brace ∷ []) refl refl) (leaf_three [] refl refl) (leaf_three [] refl refl))
     (either (eqb k kinds.ARM) (either (eqb v 0) (phases p (leaf_three [] refl refl) (leaf_three ('=>' ∷ []) refl refl) (leaf_three [] refl refl) (leaf_three [] refl refl)) (phases p (leaf_three [] refl refl) (leaf_three ('if' ∷ []) refl refl) (leaf_three ('=>' ∷ []) refl refl) (leaf_three [] refl refl)))
-    (either (eqb k kinds.VARIANT) (either (eqb v 0) (leaf_three [] refl refl) (phases p (leaf_three [] refl refl) (leaf_three (open-paren ∷ []) refl refl) (leaf_three (comma ∷ []) refl refl) (leaf_three (comma ∷ []) refl refl)))
-    (either (eqb k kinds.BLOCK) (phases p (leaf_three (open-brace ∷ []) refl refl) (leaf_three [] refl refl) (leaf_three [] refl refl) (leaf_three (semicolon ∷ []) refl refl))
-    (either (eqb k kinds.RECORD) (either (eqb v 0) (phases p (leaf_three (open-brace ∷ []) refl refl) (leaf_three (comma ∷ []) refl refl) (leaf_three (comma ∷ []) refl refl) (leaf_three (comma ∷ []) refl refl)) (phases p (leaf_three [] refl refl) (leaf_three (open-brace ∷ []) refl refl) (leaf_three (comma ∷ []) refl refl) (leaf_three (comma ∷ []) refl refl)))
+    (either (eqb k kinds.VARIANT) (either (eqb v 0) (leaf_three [] refl refl) (phases p (leaf_three [] refl refl) (leaf_three (open_paren ∷ []) refl refl) (leaf_three (comma ∷ []) refl refl) (leaf_three (comma ∷ []) refl refl)))
+    (either (eqb k kinds.BLOCK) (phases p (leaf_three (open_brace ∷ []) refl refl) (leaf_three [] refl refl) (leaf_three [] refl refl) (leaf_three (semicolon ∷ []) refl refl))
+    (either (eqb k kinds.RECORD) (either (eqb v 0) (phases p (leaf_three (open_brace ∷ []) refl refl) (leaf_three (comma ∷ []) refl refl) (leaf_three (comma ∷ []) refl refl) (leaf_three (comma ∷ []) refl refl)) (phases p (leaf_three [] refl refl) (leaf_three (open_brace ∷ []) refl refl) (leaf_three (comma ∷ []) refl refl) (leaf_three (comma ∷ []) refl refl)))
     (either (eqb k kinds.FIELD) (phases p (leaf_three [] refl refl) (leaf_three (':' ∷ []) refl refl) (leaf_three [] refl refl) (leaf_three [] refl refl))
     (leaf_three [] refl refl))))))))))
 
@@ -109,10 +108,10 @@ item_words k v d p child =
     (either (eqb k kinds.LET) (either (eqb v 0) (phases p (leaf_three ('let' ∷ []) refl refl) (leaf_three ('=' ∷ []) refl refl) (leaf_three [] refl refl) (leaf_three [] refl refl)) (phases p (leaf_three ('let' ∷ []) refl refl) (leaf_three (':' ∷ []) refl refl) (leaf_three ('=' ∷ []) refl refl) (leaf_three [] refl refl)))
     (either (eqb k kinds.IMPORT) (phases p (leaf_three ('import' ∷ []) refl refl) (leaf_three [] refl refl) (leaf_three [] refl refl) (leaf_three [] refl refl))
     (either (eqb k kinds.CONST) (phases p (leaf_three ('const' ∷ []) refl refl) (leaf_three (':' ∷ []) refl refl) (leaf_three ('=' ∷ []) refl refl) (leaf_three [] refl refl))
-    (either (eqb k kinds.FN) (either (eqb child kinds.TYPED-NAME) (phases p (leaf_three ('fn' ∷ []) refl refl) (leaf_three (open-paren ∷ []) refl refl) (leaf_three (comma ∷ []) refl refl) (leaf_three [] refl refl)) (either (eqb v 1) (phases p (leaf_three ('fn' ∷ []) refl refl) (leaf_three (open-paren ∷ close-paren ∷ '->' ∷ []) refl refl) (leaf_three (close-paren ∷ '->' ∷ []) refl refl) (leaf_three [] refl refl)) (phases p (leaf_three ('fn' ∷ []) refl refl) (leaf_three (open-paren ∷ close-paren ∷ []) refl refl) (leaf_three (close-paren ∷ []) refl refl) (leaf_three [] refl refl))))
+    (either (eqb k kinds.FN) (either (eqb child kinds.TYPED_NAME) (phases p (leaf_three ('fn' ∷ []) refl refl) (leaf_three (open_paren ∷ []) refl refl) (leaf_three (comma ∷ []) refl refl) (leaf_three [] refl refl)) (either (eqb v 1) (phases p (leaf_three ('fn' ∷ []) refl refl) (leaf_three (open_paren ∷ close_paren ∷ '->' ∷ []) refl refl) (leaf_three (close_paren ∷ '->' ∷ []) refl refl) (leaf_three [] refl refl)) (phases p (leaf_three ('fn' ∷ []) refl refl) (leaf_three (open_paren ∷ close_paren ∷ []) refl refl) (leaf_three (close_paren ∷ []) refl refl) (leaf_three [] refl refl))))
     (either (eqb k kinds.TEST) (phases p (leaf_three ('test' ∷ []) refl refl) (leaf_three [] refl refl) (leaf_three [] refl refl) (leaf_three [] refl refl))
-    (either (eqb k kinds.IMPORT-PATH) (either (eqb child kinds.NAME) (phases p (leaf_three [] refl refl) (leaf_three (dot ∷ []) refl refl) (leaf_three (dot ∷ []) refl refl) (leaf_three (dot ∷ []) refl refl)) (phases p (leaf_three (dot ∷ open-brace ∷ []) refl refl) (leaf_three (dot ∷ open-brace ∷ []) refl refl) (leaf_three (comma ∷ []) refl refl) (leaf_three (dot ∷ open-brace ∷ []) refl refl)))
-    (either (eqb k kinds.FILTER) (either (eqb child kinds.TYPED-NAME) (phases p (signed_three filter_words filter_three (pred d)) (leaf_three (open-paren ∷ []) refl refl) (leaf_three (comma ∷ []) refl refl) (leaf_three [] refl refl)) (either false (phases p (signed_three filter_words filter_three (pred d)) (leaf_three (open-paren ∷ close-paren ∷ '->' ∷ []) refl refl) (leaf_three (close-paren ∷ '->' ∷ []) refl refl) (leaf_three [] refl refl)) (phases p (signed_three filter_words filter_three (pred d)) (leaf_three (open-paren ∷ close-paren ∷ []) refl refl) (leaf_three (close-paren ∷ []) refl refl) (leaf_three [] refl refl))))
+    (either (eqb k kinds.IMPORT_PATH) (either (eqb child kinds.NAME) (phases p (leaf_three [] refl refl) (leaf_three (dot ∷ []) refl refl) (leaf_three (dot ∷ []) refl refl) (leaf_three (dot ∷ []) refl refl)) (phases p (leaf_three (dot ∷ open_brace ∷ []) refl refl) (leaf_three (dot ∷ open_brace ∷ []) refl refl) (leaf_three (comma ∷ []) refl refl) (leaf_three (dot ∷ open_brace ∷ []) refl refl)))
+    (either (eqb k kinds.FILTER) (either (eqb child kinds.TYPED_NAME) (phases p (signed_three filter_words filter_three (pred d)) (leaf_three (open_paren ∷ []) refl refl) (leaf_three (comma ∷ []) refl refl) (leaf_three [] refl refl)) (either false (phases p (signed_three filter_words filter_three (pred d)) (leaf_three (open_paren ∷ close_paren ∷ '->' ∷ []) refl refl) (leaf_three (close_paren ∷ '->' ∷ []) refl refl) (leaf_three [] refl refl)) (phases p (signed_three filter_words filter_three (pred d)) (leaf_three (open_paren ∷ close_paren ∷ []) refl refl) (leaf_three (close_paren ∷ []) refl refl) (leaf_three [] refl refl))))
     (leaf_three [] refl refl))))))))
 
 pub before_type_lem : (r k v d p child : ℕ) → k < 20 → r ≡ packed (before_type k v p) → (said r ≡ signs (before k v d p child)) × (r < past_three)
@@ -145,16 +144,16 @@ type_end : (k v p : ℕ) → Fine past_two (end_of_type k v p)
 unfolding end_of_type packed
 type_end k v p =
     (either (eqb k kinds.NEVER) (leaf_two ('!' ∷ []) refl refl)
-    (either (eqb k kinds.UNIT) (leaf_two (open-paren ∷ close-paren ∷ []) refl refl)
+    (either (eqb k kinds.UNIT) (leaf_two (open_paren ∷ close_paren ∷ []) refl refl)
     (either (eqb k kinds.OPTION) (leaf_two ('?' ∷ []) refl refl)
-    (either (eqb k kinds.PATH-TYPE) (either (eqb v 0) (leaf_two [] refl refl) (phases p (leaf_two (open-bracket ∷ close-bracket ∷ []) refl refl) (leaf_two (open-bracket ∷ close-bracket ∷ []) refl refl) (leaf_two (close-bracket ∷ []) refl refl) (leaf_two (close-bracket ∷ []) refl refl)))
-    (either (eqb k kinds.RECORD-TYPE) (phases p (leaf_two (open-brace ∷ close-brace ∷ []) refl refl) (leaf_two (close-brace ∷ []) refl refl) (leaf_two (close-brace ∷ []) refl refl) (leaf_two (close-brace ∷ []) refl refl))
+    (either (eqb k kinds.PATH_TYPE) (either (eqb v 0) (leaf_two [] refl refl) (phases p (leaf_two (open_bracket ∷ close_bracket ∷ []) refl refl) (leaf_two (open_bracket ∷ close_bracket ∷ []) refl refl) (leaf_two (close_bracket ∷ []) refl refl) (leaf_two (close_bracket ∷ []) refl refl)))
+    (either (eqb k kinds.RECORD_TYPE) (phases p (leaf_two (open_brace ∷ close_brace ∷ []) refl refl) (leaf_two (close_brace ∷ []) refl refl) (leaf_two (close_brace ∷ []) refl refl) (leaf_two (close_brace ∷ []) refl refl))
     (leaf_two [] refl refl))))))
 
 operand_end : (k d p : ℕ) → Fine past_two (end_of_operand k d p)
 unfolding end_of_operand packed
 operand_end k d p =
-    (either (eqb k kinds.CALL) (phases p (leaf_two (open-paren ∷ close-paren ∷ []) refl refl) (leaf_two (open-paren ∷ close-paren ∷ []) refl refl) (leaf_two (close-paren ∷ []) refl refl) (leaf_two (close-paren ∷ []) refl refl))
+    (either (eqb k kinds.CALL) (phases p (leaf_two (open_paren ∷ close_paren ∷ []) refl refl) (leaf_two (open_paren ∷ close_paren ∷ []) refl refl) (leaf_two (close_paren ∷ []) refl refl) (leaf_two (close_paren ∷ []) refl refl))
     (either (eqb k kinds.QUESTION) (leaf_two ('?' ∷ []) refl refl)
     (either (eqb k kinds.RETURN) (phases p (signed_two return_words return_two (pred d)) (leaf_two [] refl refl) (leaf_two [] refl refl) (leaf_two [] refl refl))
     (leaf_two [] refl refl))))
@@ -162,16 +161,16 @@ operand_end k d p =
 part_end : (k v p : ℕ) (more : Bool) → Fine past_two (end_of_part k v p more)
 unfolding end_of_part packed
 part_end k v p more =
-    (either (eqb k kinds.MATCH) (phases p (leaf_two (open-brace ∷ close-brace ∷ []) refl refl) (leaf_two (open-brace ∷ close-brace ∷ []) refl refl) (leaf_two (close-brace ∷ []) refl refl) (leaf_two (close-brace ∷ []) refl refl))
+    (either (eqb k kinds.MATCH) (phases p (leaf_two (open_brace ∷ close_brace ∷ []) refl refl) (leaf_two (open_brace ∷ close_brace ∷ []) refl refl) (leaf_two (close_brace ∷ []) refl refl) (leaf_two (close_brace ∷ []) refl refl))
     (either (eqb k kinds.ARM) (either (more && not (eqb p 3)) (leaf_two (comma ∷ []) refl refl) (leaf_two [] refl refl))
-    (either (eqb k kinds.VARIANT) (either (eqb v 0) (leaf_two [] refl refl) (phases p (leaf_two (open-paren ∷ close-paren ∷ []) refl refl) (leaf_two (open-paren ∷ close-paren ∷ []) refl refl) (leaf_two (close-paren ∷ []) refl refl) (leaf_two (close-paren ∷ []) refl refl)))
-    (either (eqb k kinds.BLOCK) (either (eqb v 0) (phases p (leaf_two (open-brace ∷ close-brace ∷ []) refl refl) (leaf_two (close-brace ∷ []) refl refl) (leaf_two (semicolon ∷ close-brace ∷ []) refl refl) (leaf_two (semicolon ∷ close-brace ∷ []) refl refl)) (phases p (leaf_two (open-brace ∷ close-brace ∷ []) refl refl) (leaf_two (close-brace ∷ []) refl refl) (leaf_two (close-brace ∷ []) refl refl) (leaf_two (close-brace ∷ []) refl refl)))
-    (either (eqb k kinds.RECORD) (either (eqb v 0) (phases p (leaf_two (open-brace ∷ close-brace ∷ []) refl refl) (leaf_two (close-brace ∷ []) refl refl) (leaf_two (close-brace ∷ []) refl refl) (leaf_two (close-brace ∷ []) refl refl)) (phases p (leaf_two (open-brace ∷ close-brace ∷ []) refl refl) (leaf_two (open-brace ∷ close-brace ∷ []) refl refl) (leaf_two (close-brace ∷ []) refl refl) (leaf_two (close-brace ∷ []) refl refl)))
+    (either (eqb k kinds.VARIANT) (either (eqb v 0) (leaf_two [] refl refl) (phases p (leaf_two (open_paren ∷ close_paren ∷ []) refl refl) (leaf_two (open_paren ∷ close_paren ∷ []) refl refl) (leaf_two (close_paren ∷ []) refl refl) (leaf_two (close_paren ∷ []) refl refl)))
+    (either (eqb k kinds.BLOCK) (either (eqb v 0) (phases p (leaf_two (open_brace ∷ close_brace ∷ []) refl refl) (leaf_two (close_brace ∷ []) refl refl) (leaf_two (semicolon ∷ close_brace ∷ []) refl refl) (leaf_two (semicolon ∷ close_brace ∷ []) refl refl)) (phases p (leaf_two (open_brace ∷ close_brace ∷ []) refl refl) (leaf_two (close_brace ∷ []) refl refl) (leaf_two (close_brace ∷ []) refl refl) (leaf_two (close_brace ∷ []) refl refl)))
+    (either (eqb k kinds.RECORD) (either (eqb v 0) (phases p (leaf_two (open_brace ∷ close_brace ∷ []) refl refl) (leaf_two (close_brace ∷ []) refl refl) (leaf_two (close_brace ∷ []) refl refl) (leaf_two (close_brace ∷ []) refl refl)) (phases p (leaf_two (open_brace ∷ close_brace ∷ []) refl refl) (leaf_two (open_brace ∷ close_brace ∷ []) refl refl) (leaf_two (close_brace ∷ []) refl refl) (leaf_two (close_brace ∷ []) refl refl)))
     (leaf_two [] refl refl))))))
 
 item_end : (k p : ℕ) → Fine past_two (end_of_item k p)
 unfolding end_of_item packed
-item_end k p = (either (one_of k (kinds.LET ∷ kinds.IMPORT ∷ kinds.CONST ∷ [])) (leaf_two (semicolon ∷ []) refl refl) (either (eqb k kinds.IMPORT-PATH) (phases p (leaf_two [] refl refl) (leaf_two [] refl refl) (leaf_two (close-brace ∷ []) refl refl) (leaf_two [] refl refl)) (leaf_two [] refl refl)))
+item_end k p = (either (one_of k (kinds.LET ∷ kinds.IMPORT ∷ kinds.CONST ∷ [])) (leaf_two (semicolon ∷ []) refl refl) (either (eqb k kinds.IMPORT_PATH) (phases p (leaf_two [] refl refl) (leaf_two [] refl refl) (leaf_two (close_brace ∷ []) refl refl) (leaf_two [] refl refl)) (leaf_two [] refl refl)))
 
 pub behind_type : (r k v d p : ℕ) (more : Bool) → k < 20 → r ≡ packed (end_of_type k v p) → (said r ≡ signs (behind k v d p more)) × (r < past_two)
 unfolding behind

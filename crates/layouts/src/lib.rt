@@ -1,7 +1,7 @@
 // How each kind of row is written, child by child: the words before a child, its place, and the words behind the last. A phase says how far it is.
-ghost use Rattle.std.specs.Prelude.{◌≡◌, [], ◌∷◌, ◌++◌, true, false, cond, ◌&&◌, not, ℕ, ◌<◌, ◌+◌, pred, eqb};
-ghost use Rattle.rows.specs.Kinds.{kinds};
-ghost use Rattle.grammar.specs.Words.{binary_signs, assign_signs, return_words, filter_words, words};
+ghost use Rattle.std.specs.Prelude.{◌≡◌, [], ◌∷◌, ◌++◌, false, cond, ◌&&◌, not, ℕ, ◌<◌, ◌+◌, pred, eqb};
+ghost use Rattle.rows.specs.Kinds as kinds;
+ghost use Rattle.grammar.specs.Words.{comma, binary_signs, assign_signs, return_words, filter_words};
 ghost use Rattle.canon.specs.Layout as canon;
 ghost use Rattle.canon.specs.Text.{signs};
 ghost use Rattle.canon.specs.Events.{closing};
@@ -20,7 +20,7 @@ mod said;
 
 // An f-string's row ends before its quote, which is copied with it.
 pub fn quote(k: u64) -> usize
-    ensures { result ≡ cond (eqb k kinds.F-STRING) 1 0 }
+    ensures { result ≡ cond (eqb k kinds.F_STRING) 1 0 }
 {
     if k == kind::F_STRING { 1 } else { 0 }
 }
@@ -58,13 +58,13 @@ fn three(phase: u64, a: u64, b: u64, c: u64) -> u64
 }
 
 fn list(phase: u64, left: u64) -> u64
-    ensures { result ≡ in_phase phase left (words.comma + 1) (words.comma + 1) (words.comma + 1) }
+    ensures { result ≡ in_phase phase left (comma + 1) (comma + 1) (comma + 1) }
 {
     in_phase(phase, left, said::COMMA, said::COMMA, said::COMMA)
 }
 
 fn list_behind(phase: u64, left: u64) -> u64
-    ensures { result ≡ in_phase phase 0 left (words.comma + 1) (words.comma + 1) }
+    ensures { result ≡ in_phase phase 0 left (comma + 1) (comma + 1) }
 {
     in_phase(phase, said::NOTHING, left, said::COMMA, said::COMMA)
 }
@@ -433,7 +433,7 @@ fn end_of_operand(k: u64, detail: u64, phase: u64) -> u64
 }
 
 fn end_of_arm(phase: u64, more: bool) -> u64
-    ensures { result ≡ packed (cond (more && not (eqb phase 3)) (words.comma ∷ []) []) }
+    ensures { result ≡ packed (cond (more && not (eqb phase 3)) (comma ∷ []) []) }
 {
     if more & (phase != BEHIND_BLOCK) {
         return said::COMMA;
@@ -582,16 +582,6 @@ pub fn place_of(packed: u64) -> Place
         more: c / 32 % 2 == 1,
         unless: c / 64 % 4,
     }
-}
-
-// The place of a whole expr, or of what is no expr, as it waits.
-const WHOLE: u64 = 24;
-
-// Whether what waits is at such a place, which asks nothing, as most are.
-pub fn asks_nothing(packed: u64) -> bool
-    ensures { result ≡ true → place_in packed ≡ canon.whole }
-{
-    packed / WORDS == WHOLE
 }
 
 // A tree's root, as it waits.

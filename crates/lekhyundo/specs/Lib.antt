@@ -1,2 +1,8 @@
 pub mod Numbers
-pub mod Gives
+pub mod Entered
+pub mod Floated
+pub mod Searched
+pub mod Evaluated
+pub mod Tabled
+pub mod Salvaged
+pub mod Printed

@@ -5,8 +5,6 @@ use Rattle.literals.specs.declared.Answer as literals
 use Rattle.constants.specs.declared.Constant.{Constant}
 use Rattle.constants.specs.Answers.{answer_of, type_for, value_bits}
 use Rattle.sheets.specs.declared.Checked.{Checked}
-use Rattle.salvage.specs.declared.Salvaged.{Salvaged}
-use Rattle.setter.specs.declared.entries.Printed.{Printed}
 
 -- "An answer is number, place and a count"
 unfoldable pub answer_numbers : Answer → List ℕ
@@ -21,12 +19,14 @@ unfoldable pub constant_numbers : ℕ → Constant → List ℕ
 unfolding answer_numbers
 constant_numbers len c = answer_numbers (answer_of len c) ++ (type_for c ∷ value_bits c ∷ [])
 
--- behind the answer: how many rows of a file are tests; how many ranges were dropped; how many rows of a print are tests
+-- how many rows of a file are tests, behind its answer
 unfoldable pub checked_numbers : Checked → List ℕ
-checked_numbers a = a.number ∷ a.start ∷ a.end ∷ a.count ∷ a.tests ∷ []
+checked_numbers c = c.number ∷ c.start ∷ c.end ∷ c.count ∷ c.tests ∷ []
 
-unfoldable pub salvaged_numbers : Salvaged → List ℕ
-salvaged_numbers a = a.number ∷ a.start ∷ a.end ∷ a.count ∷ a.ranges ∷ []
+-- how many ranges were dropped, behind the answer
+unfoldable pub salvaged_numbers : Answer → ℕ → List ℕ
+salvaged_numbers a n = a.number ∷ a.start ∷ a.end ∷ a.count ∷ n ∷ []
 
-unfoldable pub printed_numbers : Printed → List ℕ
-printed_numbers a = a.number ∷ a.start ∷ a.end ∷ a.count ∷ a.tests ∷ []
+-- how many rows are tests, behind the answer to a print
+unfoldable pub printed_numbers : Answer → ℕ → List ℕ
+printed_numbers a n = a.number ∷ a.start ∷ a.end ∷ a.count ∷ n ∷ []

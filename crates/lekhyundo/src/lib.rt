@@ -8,18 +8,14 @@ ghost use Rattle.list.specs.Filled.{filled};
 ghost use Rattle.strings.specs.Strings.{answer_of as decodeAnswer, content_of};
 ghost use Rattle.entry.specs.Entries.{name_text};
 ghost use Rattle.values.specs.Literals.{literal_at, literal_numbers};
-ghost use Rattle.answers.specs.Entries.{Permitted};
-ghost use Rattle.literals.specs.Answers.{Permitted as Floats};
-ghost use Rattle.nodes.specs.Search.{Permitted as Finds};
-ghost use Rattle.constants.specs.Answers.{Permitted as Evaluates};
-ghost use Rattle.sheets.specs.Checks.{Checks};
-ghost use Rattle.sheets.specs.Writes.{Writes};
-ghost use Rattle.salvage.specs.Answers.{Salvages};
-ghost use Rattle.salvage.specs.Steps.{answer_of as salvagedAnswer};
-ghost use Rattle.roundtrip.specs.Prints.{Prints};
-ghost use Rattle.setter.specs.Steps.{answer_of as printedAnswer};
-ghost use Rattle.lekhyundo.specs.Numbers.{answer_numbers, float_numbers, constant_numbers, checked_numbers, salvaged_numbers, printed_numbers};
-ghost use Rattle.lekhyundo.specs.Gives.{Gives};
+ghost use Rattle.lekhyundo.specs.Numbers.{answer_numbers};
+ghost use Rattle.lekhyundo.specs.Entered.{Entered};
+ghost use Rattle.lekhyundo.specs.Floated.{Floated};
+ghost use Rattle.lekhyundo.specs.Searched.{Searched};
+ghost use Rattle.lekhyundo.specs.Evaluated.{Evaluated};
+ghost use Rattle.lekhyundo.specs.Tabled.{TableChecked, TableWritten};
+ghost use Rattle.lekhyundo.specs.Salvaged.{Salvaged};
+ghost use Rattle.lekhyundo.specs.Printed.{Printed};
 
 use chars::Answer;
 use reader::entries;
@@ -130,7 +126,7 @@ pub extern "C" fn lekhyundo_literal(s: &[u8], code: u64, start: usize, end: usiz
 // (a): a source to its tree, rows of seven numbers in the lent table; number, start, end, count.
 #[unsafe(no_mangle)]
 pub extern "C" fn lekhyundo_tree(s: &[u8], table: &mut [u64], answer: &mut [u64])
-    ensures { Gives (λ a. Permitted false true s.now (length table.old) a table.new) answer_numbers answer.old answer.new }
+    ensures { Entered true s.now (length table.old) table.new answer.old answer.new }
 {
     let a = entries::tree(s, table);
     put_answer(answer, a);
@@ -139,7 +135,7 @@ pub extern "C" fn lekhyundo_tree(s: &[u8], table: &mut [u64], answer: &mut [u64]
 // (b): a source to one expression, likewise.
 #[unsafe(no_mangle)]
 pub extern "C" fn lekhyundo_expression(s: &[u8], table: &mut [u64], answer: &mut [u64])
-    ensures { Gives (λ a. Permitted false false s.now (length table.old) a table.new) answer_numbers answer.old answer.new }
+    ensures { Entered false s.now (length table.old) table.new answer.old answer.new }
 {
     let a = entries::expression(s, table);
     put_answer(answer, a);
@@ -157,7 +153,7 @@ pub extern "C" fn lekhyundo_name(s: &[u8], kind: u64, start: usize, end: usize) 
 // C-17: the number of one float literal; number, start, end, width, bits.
 #[unsafe(no_mangle)]
 pub extern "C" fn lekhyundo_float(t: &[u8], answer: &mut [u64])
-    ensures { Gives (λ a. Floats t.now a) float_numbers answer.old answer.new }
+    ensures { Floated t.now answer.old answer.new }
 {
     let a = literals::float(t);
     put(answer, 0, a.number);
@@ -170,7 +166,7 @@ pub extern "C" fn lekhyundo_float(t: &[u8], answer: &mut [u64])
 // C-15: the last leaf of a table whose span holds a byte; number, its span, its index from 0.
 #[unsafe(no_mangle)]
 pub extern "C" fn lekhyundo_at(table: &[u64], position: u64, answer: &mut [u64])
-    ensures { Gives (λ a. Finds table.now position a) answer_numbers answer.old answer.new }
+    ensures { Searched table.now position answer.old answer.new }
 {
     let a = nodes::node_at(table, position);
     put_answer(answer, a);
@@ -185,7 +181,7 @@ pub extern "C" fn lekhyundo_constant(
     list: &mut [u64],
     answer: &mut [u64],
 )
-    ensures { Gives (λ c. Evaluates false s.now number (length table.old) (length list.old) c table.new list.new) (constant_numbers (length s.now)) answer.old answer.new }
+    ensures { Evaluated s.now number (length table.old) (length list.old) table.new list.new answer.old answer.new }
 {
     let c = constants::evaluate(s, number, table, list);
     put_answer(answer, constants::answer(c, s.len()));
@@ -196,7 +192,7 @@ pub extern "C" fn lekhyundo_constant(
 // C-21: whether a file's rows and indexes are those of its source, its rows in the lent table; number, start, end, rows, tests.
 #[unsafe(no_mangle)]
 pub extern "C" fn lekhyundo_table_check(file: &[u8], table: &mut [u64], answer: &mut [u64])
-    ensures { Gives (λ a. Checks true file.now (length table.old) a table.new) checked_numbers answer.old answer.new }
+    ensures { TableChecked file.now (length table.old) table.new answer.old answer.new }
 {
     let a = sheets::check(file, table);
     put(answer, 0, a.number);
@@ -214,7 +210,7 @@ pub extern "C" fn lekhyundo_table_write(
     file: &mut [u8],
     answer: &mut [u64],
 )
-    ensures { Gives (λ a. Writes false s.now (length table.old) (length file.old) a table.new file.new) answer_numbers answer.old answer.new }
+    ensures { TableWritten s.now (length table.old) (length file.old) table.new file.new answer.old answer.new }
 {
     let a = sheets::write(s, table, file);
     put_answer(answer, a);
@@ -228,7 +224,7 @@ pub extern "C" fn lekhyundo_salvage(
     ranges: &mut [u64],
     answer: &mut [u64],
 )
-    ensures { Gives (λ a. Salvages false s.old (length table.old) (length ranges.old) (salvagedAnswer a) a.ranges s.new table.new ranges.new) salvaged_numbers answer.old answer.new }
+    ensures { Salvaged s.old (length table.old) (length ranges.old) s.new table.new ranges.new answer.old answer.new }
 {
     let a = salvage::salvage(s, table, ranges);
     put(answer, 0, a.number);
@@ -247,7 +243,7 @@ pub extern "C" fn lekhyundo_print(
     text: &mut [u8],
     answer: &mut [u64],
 )
-    ensures { Gives (λ a. Prints s.now (length table.old) (length plan.old) (length text.old) (printedAnswer a) a.tests table.new plan.new text.new) printed_numbers answer.old answer.new }
+    ensures { Printed s.now (length table.old) (length plan.old) (length text.old) table.new plan.new text.new answer.old answer.new }
 {
     let a = setter::entries::print_tree(s, table, plan, text);
     put(answer, 0, a.number);

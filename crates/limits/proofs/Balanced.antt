@@ -5,9 +5,9 @@ use mathlib.Core.Bool.{Bool, true, false, not, ◌&&◌, cond}
 use Prim.Native.Nat.{ℕ, suc, pred, ◌+◌}
 use native.Mathlib.Omega.{arith}
 use lib.Dec.{T, eqb, ltb→lt, eqb→eq}
-use Rattle.grammar.specs.Words.{words}
+use Rattle.grammar.specs.Words.{text_then_hole, last_text}
 use Rattle.grammar.specs.Grammar.{Ask, plain, has_value, opens_bracket, closes_bracket, is_prefix, is_head, is_else_if, Symbol, Token, found, Stream, Parts, one_of}
-use Rattle.grammar.specs.Kinds.{phrases}
+use Rattle.grammar.specs.Kinds.{BRACES_INSIDE}
 use Rattle.grammar.specs.Limits.{Counts}
 use Rattle.grammar.specs.Readings.{ReadingBy, reads_end, reads_token, reads_phrase, reads_unless, reads_note, reads_side, reads_text}
 use Rattle.grammar.proofs.Bools.{and_l, and_r}
@@ -15,8 +15,6 @@ use Rattle.printing.specs.Spelled.{leaves}
 use Rattle.printing.proofs.Lists.{l}
 use Rattle.limits.specs.Within.{opening, closing, prefixing}
 use Rattle.limits.proofs.Counted.{word_fits, opened, may_close, level_of_lem, no_symbols, lone, even, words_fit, fit_word, none_open, one_open, one_close, one_less_open, either_even, alternative, entered, lone_level, piece_fits}
-open words use {text-then-hole, last-text}
-open phrases use {BRACES-INSIDE}
 
 -- brackets that stand open behind a word, and behind tokens
 abbrev pub deeper : ℕ → ℕ → ℕ
@@ -40,7 +38,7 @@ deeper_on is_prefix c n β f m = none_open (opening c) (closing c) (β + n) (and
 deeper_on is_head c n β f m = none_open (opening c) (closing c) (β + n) f
 deeper_on is_else_if c n β f m = none_open (opening c) (closing c) (β + n) f
 
-module _ {S : Stream} {G : Ask → Counts → Token → Bool} (pieces : (i j : S.Place) (x : Token) → S.piece i ≡ found x j → T (one_of x.word (text-then-hole ∷ last-text ∷ []))) where
+module _ {S : Stream} {G : Ask → Counts → Token → Bool} (pieces : (i j : S.Place) (x : Token) → S.piece i ≡ found x j → T (one_of x.word (text_then_hole ∷ last_text ∷ []))) where
   nothing_read : {d : Counts} {i r : S.Place} {p : Parts} (s : List Symbol) (b : ℕ) → T (no_symbols s) → ReadingBy S l G d s i r p → depth (leaves p) b ≡ b
   unfolding depth
   nothing_read [] b h reads_end = refl
@@ -59,11 +57,11 @@ module _ {S : Stream} {G : Ask → Counts → Token → Bool} (pieces : (i j : S
       let f = fit_word g w x.word (and_l (words_fit g w) (may_close g n && even (opened g n) s) t) m in
       ap (depth (leaves p)) (deeper_on g x.word n β f (and_l (may_close g n) (even (opened g n) s) t₁)) ∙ balanced (opened g n) β u (and_r (may_close g n) (even (opened g n) s) t₁)
   balanced n β (reads_phrase {n = m} {s = s} {p = p} {q = p₂} y u v) t =
-      let β' = cond (eqb m BRACES-INSIDE) β (β + n) in
+      let β' = cond (eqb m BRACES_INSIDE) β (β + n) in
       depth_append (leaves p) (leaves p₂) (β + n)
-      ∙ ap (λ (b : ℕ). depth (leaves p₂) (depth (leaves p) b)) (entered (eqb m BRACES-INSIDE) n β (β + n) (no_symbols s) (even n s) refl t)
+      ∙ ap (λ (b : ℕ). depth (leaves p₂) (depth (leaves p) b)) (entered (eqb m BRACES_INSIDE) n β (β + n) (no_symbols s) (even n s) refl t)
       ∙ ap (depth (leaves p₂)) (balanced (level_of_lem m) β' u (alternative m y))
-      ∙ closed (eqb m BRACES-INSIDE) n β s t v (balanced n β v)
+      ∙ closed (eqb m BRACES_INSIDE) n β s t v (balanced n β v)
   balanced n β (reads_unless m u) t = balanced n β u t
   balanced n β (reads_note u) t = balanced n β u t
   balanced n β (reads_side {n = m} {n₁ = m₁} {s = s} {p = p} {q = p₂} y u k v) t =

@@ -3,14 +3,14 @@ use mathlib.Core.Path.{◌≡◌, refl, sym, ap, subst, ◌∙◌}
 use mathlib.Core.Logic.{inl, inr}
 use mathlib.Core.List.{List, [], ◌∷◌, ◌++◌}
 use mathlib.Core.Bool.{Bool, true, false, not, ◌&&◌, ◌||◌, cond}
-use Prim.Native.Nat.{ℕ, zero, suc, pred, ◌+◌, ◌≤◌}
+use Prim.Native.Nat.{ℕ, zero, suc, pred, ◌+◌, ◌-◌, ◌≤◌}
 use native.Mathlib.Omega.{arith}
 use lib.Dec.{T, T_not, eqb, ltb, leb, eqb→eq, ltb→lt, lt→ltb, leb→le}
-use lib.ListN.{length, drop}
-use lib.Seq.{slice}
-use Rattle.rows.specs.Kinds.{kinds}
-use Rattle.grammar.specs.Words.{words}
-use Rattle.grammar.specs.Grammar.{plain, Token, Parts, one_of}
+use lib.ListN.{length}
+use lib.Seq.{slice, length-slice}
+use Rattle.rows.specs.Kinds as kinds
+use Rattle.grammar.specs.Words.{f_quote, text_then_hole, last_text}
+use Rattle.grammar.specs.Grammar.{plain, text, Token, Parts, one_of}
 use Rattle.grammar.specs.Limits.{Counts, after, kept, limit}
 use Rattle.grammar.specs.Table.{row}
 use Rattle.grammar.specs.Readings.{ReadingBy, reads_end, reads_token, reads_phrase, reads_unless, reads_note, reads_side, reads_text}
@@ -30,12 +30,9 @@ use Rattle.respell.proofs.FStrings.{roto_hole, roto_holes, text_moves, closes}
 use Rattle.roundtrip.proofs.Lasts.{covered, within_one}
 use Rattle.roundtrip.proofs.Meets.{same_leaves, copied_text, string_last}
 use Rattle.sink.specs.Few.{prefix_words}
-use Rattle.sink.specs.Low.{openers, closers, quoted, weight}
-use Rattle.limits.specs.Within.{opening, closing, prefixing, Tally, behind, allowed, past, within, bounded}
+use Rattle.limits.specs.Within.{openers, closers, opening, closing, prefixing, Tally, behind, allowed, quoted, past, within, bounded}
 use Rattle.limits.proofs.Balanced.{deeper, depth, balanced}
 use Rattle.limits.proofs.Quotes.{quote_text}
-use Rattle.limits.proofs.Heavy.{heavy, one_more, weight_on, weight_two, look_heavy}
-open words use {f-quote, text-then-hole, last-text}
 
 -- ---- words that count nothing
 
@@ -57,7 +54,7 @@ still_copied c h = (no openers tt, no closers tt, no prefix_words tt)
     no v t = none_of v sign_words c (within_one v sign_words c t) h
 
 still_piece : (c : ℕ) → T (is_piece c) → Still c
-still_piece c m = still_copied c (apart (text-then-hole ∷ last-text ∷ []) sign_words c tt m)
+still_piece c m = still_copied c (apart (text_then_hole ∷ last_text ∷ []) sign_words c tt m)
 
 still_behind : (c : ℕ) (o : Tally) → Still c → behind c o ≡ past o
 still_behind c o h = go (opening c) (closing c) (prefixing c) h.0 h.1 h.2
@@ -97,24 +94,35 @@ under_allowed c {o'} {o} u t =
 
 -- ---- tokens that are few
 
--- those that open a bracket or are a prefix
+-- those that are no piece of text
 unfoldable weigh : List Token → ℕ
 weigh [] = 0
-weigh (x ∷ xs) = cond (heavy x.word) (suc (weigh xs)) (weigh xs)
+weigh (x ∷ xs) = cond (is_piece x.word) (weigh xs) (suc (weigh xs))
 
 weigh_append : (xs ys : List Token) → weigh (xs ++ ys) ≡ weigh xs + weigh ys
 unfolding weigh
 weigh_append [] ys = omega arith
-weigh_append (x ∷ xs) ys = one_more (heavy x.word) (weigh xs) (weigh ys) (weigh_append xs ys)
+weigh_append (x ∷ xs) ys = go (is_piece x.word) (weigh_append xs ys)
+  where
+    go : (b : Bool) → weigh (xs ++ ys) ≡ weigh xs + weigh ys → cond b (weigh (xs ++ ys)) (suc (weigh (xs ++ ys))) ≡ cond b (weigh xs) (suc (weigh xs)) + weigh ys
+    go true e = e
+    go false e = omega (arith, e)
+
+weigh_one : (x : Token) (xs : List Token) → weigh (x ∷ xs) ≤ suc (weigh xs)
+unfolding weigh
+weigh_one x xs = go (is_piece x.word)
+  where
+    go : (b : Bool) → cond b (weigh xs) (suc (weigh xs)) ≤ suc (weigh xs)
+    go true = omega arith
+    go false = omega arith
 
 weigh_piece : (x : Token) (xs : List Token) → T (is_piece x.word) → weigh (x ∷ xs) ≡ weigh xs
 unfolding weigh
-weigh_piece x xs m = let h = still_piece x.word m in go (opening x.word) (prefixing x.word) h.0 h.2
+weigh_piece x xs m = go (is_piece x.word) m
   where
-    go : (a p : Bool) → T (not a) → T (not p) → cond (a || p) (suc (weigh xs)) (weigh xs) ≡ weigh xs
-    go true p t u = absurd t
-    go false true t u = absurd u
-    go false false t u = refl
+    go : (b : Bool) → T b → cond b (weigh xs) (suc (weigh xs)) ≡ weigh xs
+    go true t = refl
+    go false t = absurd t
 
 unfoldable through : List Token → Tally → Tally
 through [] o = o
@@ -141,20 +149,6 @@ prefixes_one c o = go (prefixing c)
     go true = omega arith
     go false = omega arith
 
--- a word that does neither may stand, and raises no count
-idle : (c : ℕ) (o : Tally) → heavy c ≡ false → T (allowed c o) × ((behind c o).brackets ≤ o.brackets) × ((behind c o).prefixes ≡ 0)
-idle c o e = go (opening c) (closing c) (prefixing c) (subst (λ (b : Bool). T (not b)) (sym e) tt)
-  where
-    less : (n : ℕ) → pred n ≤ n
-    less zero = omega arith
-    less (suc n) = omega arith
-
-    go : (a k p : Bool) → T (not (a || p)) → T ((not a || ltb o.brackets limit) && (not p || ltb o.prefixes limit)) × (cond a (suc o.brackets) (cond k (pred o.brackets) o.brackets) ≤ o.brackets) × (cond p (suc o.prefixes) 0 ≡ 0)
-    go true k p t = absurd t
-    go false k true t = absurd t
-    go false true false t = (tt, less o.brackets, refl)
-    go false false false t = (tt, omega arith, refl)
-
 through_last : (xs : List Token) (x : Token) (o : Tally) → T (is_piece x.word) → (through (xs ++ (x ∷ [])) o).prefixes ≡ 0
 unfolding through
 through_last [] x o m = ap (λ (t : Tally). t.prefixes) (still_behind x.word o (still_piece x.word m))
@@ -166,7 +160,7 @@ ample b a h = or_r (not b) (ltb a limit) (lt→ltb a limit (omega (arith, h)))
 slim : (xs ts : List Token) (o : Tally) (k : ℕ) → weigh xs ≤ k → o.brackets + k ≤ limit → o.prefixes + k ≤ limit → T (bounded (through xs o) ts) → T (bounded o (xs ++ ts))
 unfolding through weigh bounded
 slim [] ts o k w h i t = t
-slim (x ∷ xs) ts o k w h i t = go (heavy x.word) refl k w h i (λ k w h i. slim xs ts (behind x.word o) k w h i t)
+slim (x ∷ xs) ts o k w h i t = go (is_piece x.word) refl k w h i (λ k w h i. slim xs ts (behind x.word o) k w h i t)
   where
     c : ℕ
     c = x.word
@@ -174,14 +168,15 @@ slim (x ∷ xs) ts o k w h i t = go (heavy x.word) refl k w h i (λ k w h i. sli
     on : Tally
     on = behind x.word o
 
-    go : (b : Bool) → heavy x.word ≡ b → (k : ℕ) → cond b (suc (weigh xs)) (weigh xs) ≤ k → o.brackets + k ≤ limit → o.prefixes + k ≤ limit → ((k : ℕ) → weigh xs ≤ k → on.brackets + k ≤ limit → on.prefixes + k ≤ limit → T (bounded on (xs ++ ts))) → T (allowed x.word o && bounded (behind x.word o) (xs ++ ts))
-    go false e k w h i rec =
-        let f = idle c o e in
-        let f₁ = f.1 in
-        let f₂ = f.2 in
-        both (allowed c o) (bounded on (xs ++ ts)) f.0 (rec k w (omega (arith, h, f₁)) (omega (arith, i, f₂)))
-    go true e zero w h i rec = absurd (omega (arith, w))
-    go true e (suc k) w h i rec =
+    go : (b : Bool) → is_piece x.word ≡ b → (k : ℕ) → cond b (weigh xs) (suc (weigh xs)) ≤ k → o.brackets + k ≤ limit → o.prefixes + k ≤ limit → ((k : ℕ) → weigh xs ≤ k → on.brackets + k ≤ limit → on.prefixes + k ≤ limit → T (bounded on (xs ++ ts))) → T (allowed x.word o && bounded (behind x.word o) (xs ++ ts))
+    go true e k w h i rec =
+        let f = still_piece c (subst T (sym e) tt) in
+        let g = still_behind c o f in
+        let g₀ = ap (λ (t : Tally). t.brackets) g in
+        let g₁ = ap (λ (t : Tally). t.prefixes) g in
+        both (allowed c o) (bounded on (xs ++ ts)) (still_allowed c o f) (rec k w (omega (arith, h, g₀)) (omega (arith, h, g₁)))
+    go false e zero w h i rec = absurd (omega (arith, w))
+    go false e (suc k) w h i rec =
         let g₀ = brackets_one c o in
         let g₁ = prefixes_one c o in
         both (allowed c o) (bounded on (xs ++ ts))
@@ -190,61 +185,54 @@ slim (x ∷ xs) ts o k w h i t = go (heavy x.word) refl k w h i (λ k w h i. sli
 
 -- ---- f-strings
 
-heavier : (b : Bool) (n r : ℕ) {j i : ℕ} → n + r ≤ j → cond b (suc j) j ≤ i → cond b (suc n) n + r ≤ i
-heavier true n r h g = omega (arith, h, g)
-heavier false n r h g = omega (arith, h, g)
-
 module _ (s : List ℕ) where
-  -- the tokens of a reading weigh no more than the source between its ends
-  light : {d : Counts} {b : _} {i r : ℕ} {p : Parts} → ReadingBy (source s) l kept d b i r p → weigh (leaves p) + weight (drop r s) ≤ weight (drop i s)
+  -- each token of a source but a piece of text has a byte
+  light : {d : Counts} {b : _} {i r : ℕ} {p : Parts} → ReadingBy (source s) l kept d b i r p → weigh (leaves p) + i ≤ r
   unfolding weigh
   light reads_end = omega arith
-  light {r = r} (reads_token {x = x} {i = i} {j = j} {p = p} e m k t) = heavier (heavy x.word) (weigh (leaves p)) (weight (drop r s)) (light t) (look_heavy s i x j e)
+  light (reads_token {x = x} {i = i} {j = j} {p = p} e m k t) = let h = light t in let g = look_lies s i x j e in let g₀ = g.0 in let g₁ = g.1 in let w = weigh_one x (leaves p) in omega (arith, h, g₀, g₁, w)
   light (reads_phrase {p = p} {q = q} o t u) = let h = light t in let g = light u in let w = weigh_append (leaves p) (leaves q) in omega (arith, h, g, w)
   light (reads_unless m t) = light t
   light (reads_note t) = light t
   light (reads_side {p = p} {q = q} o t m u) = let h = light t in let g = light u in let w = weigh_append (leaves p) (leaves q) in omega (arith, h, g, w)
-  light (reads_text {x = x} {i = i} {j = j} {p = p} e k t) =
-      let h = light t in
-      let g = weight_on s i j (piece_lies s i x j e).0 in
-      let w = weigh_piece x (leaves p) ((sure s).pieces i j x e) in
-      omega (arith, h, g, w)
+  light (reads_text {x = x} {i = i} {j = j} {p = p} e k t) = let h = light t in let g = (piece_lies s i x j e).0 in let w = weigh_piece x (leaves p) ((sure s).pieces i j x e) in omega (arith, h, g, w)
 
-  still_quote : Still f-quote
+  still_quote : Still f_quote
   still_quote = (tt, tt, tt)
 
-  quoted_within : (t : List ℕ) (o : Tally) (bs : List Bit) → quoted t ≡ true → T (within o (copy t ∷ bs)) → T (leb (o.brackets + weight t) limit)
+  quoted_within : (t : List ℕ) (o : Tally) (bs : List Bit) → quoted t ≡ true → T (within o (copy t ∷ bs)) → T (leb (o.brackets + length t) limit)
   unfolding within
   quoted_within t o bs e h = go (quoted t) e h
     where
-      go : (b : Bool) → b ≡ true → T (cond b (leb (o.brackets + weight t) limit && within (past o) bs) (within (past o) bs)) → T (leb (o.brackets + weight t) limit)
-      go true e h = and_l (leb (o.brackets + weight t) limit) (within (past o) bs) h
+      go : (b : Bool) → b ≡ true → T (cond b (leb (o.brackets + length t) limit && within (past o) bs) (within (past o) bs)) → T (leb (o.brackets + length t) limit)
+      go true e h = and_l (leb (o.brackets + length t) limit) (within (past o) bs) h
       go false e h = let v : ◌≡◌ {A = ℕ} 0 1 = cc in absurd (omega arith)
 
   copy_within : (t : List ℕ) (o : Tally) (bs : List Bit) → T (within o (copy t ∷ bs)) → T (within (past o) bs)
   unfolding within
   copy_within t o bs h = go (quoted t) h
     where
-      go : (b : Bool) → T (cond b (leb (o.brackets + weight t) limit && within (past o) bs) (within (past o) bs)) → T (within (past o) bs)
-      go true h = and_r (leb (o.brackets + weight t) limit) (within (past o) bs) h
+      go : (b : Bool) → T (cond b (leb (o.brackets + length t) limit && within (past o) bs) (within (past o) bs)) → T (within (past o) bs)
+      go true h = and_r (leb (o.brackets + length t) limit) (within (past o) bs) h
       go false h = h
 
-  string_bounded : {d : Counts} {i r : ℕ} {p : Parts} (xs ts : List Token) (bs : List Bit) (o o' : Tally) → ReadingBy (source s) l kept d string_symbols i r p → xs ≡ leaves p → Under o' o → T (within o (copy (bytes_of s kinds.F-STRING xs) ∷ bs)) → ((o'' : Tally) → Under o'' (past o) → T (bounded o'' ts)) → T (bounded o' (xs ++ ts))
+  string_bounded : {d : Counts} {i r : ℕ} {p : Parts} (xs ts : List Token) (bs : List Bit) (o o' : Tally) → ReadingBy (source s) l kept d string_symbols i r p → xs ≡ leaves p → Under o' o → T (within o (copy (bytes_of s kinds.F_STRING xs) ∷ bs)) → ((o'' : Tally) → Under o'' (past o) → T (bounded o'' ts)) → T (bounded o' (xs ++ ts))
   unfolding tokens_of bounded
   string_bounded {d = d} {i = i} {r = r} xs ts bs o o' (reads_token {x = x} {j = j} {p = p} e m k u) are v h rec =
-      let w : x.word ≡ f-quote = elim (or_cases (eqb x.word f-quote) false m) [ inl y ↦ eqb→eq x.word f-quote y | inr y ↦ absurd y ] in
+      let w : x.word ≡ f_quote = elim (or_cases (eqb x.word f_quote) false m) [ inl y ↦ eqb→eq x.word f_quote y | inr y ↦ absurd y ] in
       let z = string_last s kept (after plain d) j r p u in
-      let cl = closes s l (roto_hole true) (roto_holes true) kept r (after plain d) (row kinds.F-STRING ∷ []) j r p tt u (omega arith) in
+      let cl = closes s l (roto_hole true) (roto_holes true) kept r (after plain d) (row kinds.F_STRING ∷ []) j r p tt u (omega arith) in
       let cl₁ = cl.1 in
       let cl₃ = cl.3 in
       let lies₁ = (look_lies s i x j e).1 in
       let far = text_moves s l (roto_hole true) (roto_holes true) kept u in
       let last_are : leaves p ≡ z.earlier ++ (z.final ∷ []) = same_leaves p ∙ z.tokens in
       let end_is : ends xs ≡ z.final.end = ap ends (are ∙ ap (λ (y : List Token). x ∷ y) last_are) ∙ last_end (x ∷ z.earlier) z.final in
-      let text_is : bytes_of s kinds.F-STRING xs ≡ slice x.start r s = copied_text s kinds.F-STRING x.start r xs tt (ap starts are) (ap (λ (a : ℕ). a + 1) end_is ∙ z.there) in
+      let text_is : bytes_of s kinds.F_STRING xs ≡ slice x.start r s = copied_text s kinds.F_STRING x.start r xs tt (ap starts are) (ap (λ (a : ℕ). a + 1) end_is ∙ z.there) in
       let inside : r ≤ length s = omega (arith, cl₁, cl₃) in
       let t : List ℕ = slice x.start r s in
-      let n : ℕ = weight t in
+      let n : ℕ = length t in
+      let size : n ≡ r - x.start = length-slice x.start r s inside in
       let q = quoted_within t o bs (quote_text s i x j r e w (omega (arith, lies₁, far)) inside) (subst (λ (y : List ℕ). T (within o (copy y ∷ bs))) text_is h) in
       let fit = leb→le (o.brackets + n) limit q in
       let o₁ : Tally = behind x.word o' in
@@ -254,15 +242,13 @@ module _ (s : List ℕ) where
       let b₁ = ap (λ (y : Tally). y.prefixes) b in
       let v₀ = v.brackets in
       let lt = light u in
-      let from = weight_on s x.start j (omega (arith, lies₁)) in
-      let parts = weight_two s x.start r (omega (arith, lies₁, far)) inside in
       let bal : depth (leaves p) (o₁.brackets + 0) ≡ o₁.brackets = balanced (sure s).pieces 0 o₁.brackets u tt in
       let under : Under (through (leaves p) o₁) (past o) = record {
         brackets = through_brackets (leaves p) o₁ ∙ ap (depth (leaves p)) (omega arith) ∙ bal ∙ b₀ ∙ v₀;
         prefixes = let f = ap (λ (y : List Token). (through y o₁).prefixes) last_are ∙ through_last z.earlier z.final o₁ z.piece in omega (arith, f);
       } in
       subst (λ (y : List Token). T (bounded o' (y ++ ts))) (sym are) (both (allowed x.word o') (bounded o₁ (leaves p ++ ts)) (still_allowed x.word o' still)
-      (slim (leaves p) ts o₁ n (omega (arith, lt, from, parts)) (omega (arith, fit, b₀, v₀)) (omega (arith, fit, b₁)) (rec (through (leaves p) o₁) under)))
+      (slim (leaves p) ts o₁ n (omega (arith, lt, size, lies₁, far)) (omega (arith, fit, b₀, v₀)) (omega (arith, fit, b₁)) (rec (through (leaves p) o₁) under)))
 
   -- ---- the print
 

@@ -6,9 +6,9 @@ use mathlib.Core.Bool.{Bool, true, false, not, ◌&&◌, ◌||◌, cond}
 use Prim.Native.Nat.{ℕ, zero, suc, pred, ◌+◌, ◌≤◌, ◌<◌}
 use native.Mathlib.Omega.{arith}
 use lib.Dec.{T, eqb, ltb, eqb→eq, ltb→lt, lt→ltb}
-use Rattle.grammar.specs.Words.{words}
+use Rattle.grammar.specs.Words.{text_then_hole, last_text}
 use Rattle.grammar.specs.Grammar.{Ask, plain, has_value, opens_bracket, closes_bracket, is_prefix, is_head, is_else_if, In, Scope, same, body, Symbol, token, phrase, unless, note, left_side, text, Token, Parts, node, one_of, alternatives}
-use Rattle.grammar.specs.Kinds.{phrases}
+use Rattle.grammar.specs.Kinds.{BRACES_INSIDE}
 use Rattle.grammar.specs.Limits.{Counts, zeros, after, inside, kept, limit}
 use Rattle.grammar.specs.Language.{roto, start}
 use Rattle.grammar.specs.Culprit.{lists}
@@ -21,8 +21,6 @@ use Rattle.printing.proofs.Lists.{l, held}
 use Rattle.roundtrip.proofs.Lasts.{looked, pieced}
 use Rattle.limits.specs.Within.{opening, closing, prefixing, Tally, nothing_yet, behind, allowed, bounded}
 use Rattle.limits.proofs.Tested.{Tested, AllHeads}
-open words use {text-then-hole, last-text}
-open phrases use {BRACES-INSIDE}
 
 -- ---- tests of the table
 
@@ -61,19 +59,19 @@ may_close is_else_if n = true
 
 -- `{` of braces is closed in the phrase behind it
 abbrev pub level_of_lem : ℕ → ℕ
-level_of_lem m = cond (eqb m BRACES-INSIDE) 1 0
+level_of_lem m = cond (eqb m BRACES_INSIDE) 1 0
 
 abbrev pub no_symbols : List Symbol → Bool
 no_symbols [] = true
 no_symbols (y ∷ s) = false
 
 abbrev pub lone : ℕ → Bool
-lone m = not (eqb m BRACES-INSIDE)
+lone m = not (eqb m BRACES_INSIDE)
 
 abbrev pub even : ℕ → List Symbol → Bool
 even n [] = eqb n 0
 even n (token g w ∷ s) = words_fit g w && (may_close g n && even (opened g n) s)
-even n (phrase o m ∷ s) = cond (eqb m BRACES-INSIDE) (eqb n 1 && no_symbols s) (even n s)
+even n (phrase o m ∷ s) = cond (eqb m BRACES_INSIDE) (eqb n 1 && no_symbols s) (even n s)
 even n (unless w ∷ s) = even n s
 even n (note k ∷ s) = even n s
 even n (left_side m m₁ ∷ s) = (lone m && lone m₁) && even n s
@@ -188,7 +186,7 @@ enter {d = d} sc m β' e i = let s = inside_brackets sc d in record { level = s 
 
 pub either_even : (b : Bool) (n m : ℕ) (s : List Symbol) → T (lone m) → T (even n s) → T (even n (cond b (phrase same m ∷ s) s))
 either_even false n m s f t = t
-either_even true n m s f t = go (eqb m BRACES-INSIDE) f
+either_even true n m s f t = go (eqb m BRACES_INSIDE) f
   where
     go : (q : Bool) → T (not q) → T (cond q (eqb n 1 && no_symbols s) (even n s))
     go true f = absurd f
@@ -203,7 +201,7 @@ entered true n β b e e' h t = let k = eqb→eq n 1 (and_l (eqb n 1) e t) in ome
 entered false n β b e e' h t = omega arith
 
 pub lone_level : (m k : ℕ) → T (lone m) → k ≡ k + level_of_lem m
-lone_level m k t = go (eqb m BRACES-INSIDE) t
+lone_level m k t = go (eqb m BRACES_INSIDE) t
   where
     go : (q : Bool) → T (not q) → k ≡ k + cond q 1 0
     go true t = absurd t
@@ -229,8 +227,8 @@ phrase_gone false n β row row' o sc m y v t i r rec =
     let g = rec (record { level = i.level; alike = r.level; run = r.run }) t in
     record { to = g.to; fits = g.fits; level = g.level; run = g.run; reads = reads_phrase y r.reads g.reads }
 
-pub piece_fits : (c : ℕ) → T (one_of c (text-then-hole ∷ last-text ∷ [])) → T (word_fits has_value c)
-piece_fits c m = fit_word has_value (text-then-hole ∷ last-text ∷ []) c tt m
+pub piece_fits : (c : ℕ) → T (one_of c (text_then_hole ∷ last_text ∷ [])) → T (word_fits has_value c)
+piece_fits c m = fit_word has_value (text_then_hole ∷ last_text ∷ []) c tt m
 
 value_kept : (d : Counts) (x : Token) → T (held has_value d x) → T (kept has_value d x)
 unfolding kept
@@ -248,9 +246,9 @@ counted n β row o {d} (reads_token {g = g} {w = w} {s = s} {x = x} {i = c} {j =
     let here = word_kept g x row o d f i.alike i.run a.0 h.0 (and_l (allowed x.word o) (bounded (behind x.word o) c') b') k in
     record { to = r.to; fits = r.fits; level = r.level; run = r.run; reads = reads_token e m here r.reads }
 counted n β row o {d} (reads_phrase {n = m} {o = sc} {s = s} y u v) a h i t b =
-    let β' = cond (eqb m BRACES-INSIDE) β d.brackets in
-    let r = counted (level_of_lem m) β' row o u a.0 h.0 (enter sc m β' (entered (eqb m BRACES-INSIDE) n β d.brackets (no_symbols s) (even n s) i.level t) i) (alternative m y) b in
-    phrase_gone (eqb m BRACES-INSIDE) n β row (row_behind row u) o sc m y v t i r (λ i' t'. counted n β (row_behind row u) r.to v a.1 h.1 i' t' r.fits)
+    let β' = cond (eqb m BRACES_INSIDE) β d.brackets in
+    let r = counted (level_of_lem m) β' row o u a.0 h.0 (enter sc m β' (entered (eqb m BRACES_INSIDE) n β d.brackets (no_symbols s) (even n s) i.level t) i) (alternative m y) b in
+    phrase_gone (eqb m BRACES_INSIDE) n β row (row_behind row u) o sc m y v t i r (λ i' t'. counted n β (row_behind row u) r.to v a.1 h.1 i' t' r.fits)
 counted n β row o (reads_unless m u) a h i t b = let r = counted n β row o u a h i t b in record { to = r.to; fits = r.fits; level = r.level; run = r.run; reads = reads_unless m r.reads }
 counted n β row o (reads_note u) a h i t b = let r = counted n β row o u a h i t b in record { to = r.to; fits = r.fits; level = r.level; run = r.run; reads = reads_note r.reads }
 counted n β row o {d} (reads_side {n = m} {n₁ = m₁} {s = s} {p = p} y u k v) a h i t b =

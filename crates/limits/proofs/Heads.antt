@@ -6,10 +6,10 @@ use mathlib.Core.Bool.{Bool, true, false, not, ◌&&◌, ◌||◌, cond}
 use Prim.Native.Nat.{ℕ, zero, suc, ◌≤◌}
 use native.Mathlib.Omega.{arith}
 use lib.Dec.{T, T_not, eqb, ltb, ltb→lt, lt→ltb}
-use Rattle.rows.specs.Kinds.{kinds}
-use Rattle.grammar.specs.Words.{literals, words}
+use Rattle.rows.specs.Kinds as kinds
+use Rattle.grammar.specs.Words.{'if', 'while', 'for', 'match', 'else', 'in', open_brace, close_brace, literals}
 use Rattle.grammar.specs.Grammar.{Ask, plain, has_value, opens_bracket, closes_bracket, is_prefix, is_head, is_else_if, In, same, body, Symbol, token, phrase, unless, note, left_side, text, Token, Stream, Parts, end, leaf, node, mark, one_of, alternatives}
-use Rattle.grammar.specs.Kinds.{no_records, phrases}
+use Rattle.grammar.specs.Kinds.{no_records, NAME, BLOCK, STATEMENTS, LITERAL, FOUR, ELSE, ELSE_PART, ELSE_IF, ARMS, EXPR}
 use Rattle.grammar.specs.Limits.{Counts, zeros, after, inside, limit}
 use Rattle.grammar.specs.Table.{a, word, opens, closes, head, literal, behind, row, rest_kinds, literal_row}
 use Rattle.grammar.specs.Language.{roto, start}
@@ -28,8 +28,6 @@ use Rattle.printing.proofs.Back.{alt_at}
 use Rattle.forests.proofs.Places.{one_of_each}
 use Rattle.limits.proofs.Tested.{headless, Tested, AllHeads}
 use Rattle.limits.proofs.Singles.{One, leaves_one}
-open words use {'if', 'while', 'for', 'match', 'else', 'in', open-brace, close-brace}
-open phrases use {NAME, BLOCK, STATEMENTS, LITERAL, FOUR, ELSE, ELSE-PART, ELSE-IF, ARMS, EXPR}
 
 abbrev pub Iff : Type 0 → Type 0 → Type 0
 Iff A B = (A → B) × (B → A)
@@ -112,10 +110,10 @@ data Class : Type 0 where
   elses else_if follows own : Class
 
 abbrev class : ℕ → Class
-class n = cond (one_of n (ELSE ∷ ELSE-PART ∷ [])) elses (cond (eqb n ELSE-IF) else_if (cond (one_of n rest_kinds) follows own))
+class n = cond (one_of n (ELSE ∷ ELSE_PART ∷ [])) elses (cond (eqb n ELSE_IF) else_if (cond (one_of n rest_kinds) follows own))
 
 abbrev simple : ℕ → Bool
-simple n = not (one_of n (ELSE ∷ ELSE-PART ∷ [])) && not (eqb n ELSE-IF)
+simple n = not (one_of n (ELSE ∷ ELSE_PART ∷ [])) && not (eqb n ELSE_IF)
 
 abbrev flat_note : ℕ → Bool
 flat_note k = eqb k 0 || (not (is_four k) && not (eqb k literal_row))
@@ -132,7 +130,7 @@ level (left_side n m ∷ t) = (simple n && simple m) && level t
 level (text n ∷ t) = simple n && level t
 
 abbrev special : List ℕ
-special = FOUR ∷ ELSE ∷ ELSE-PART ∷ ELSE-IF ∷ LITERAL ∷ []
+special = FOUR ∷ ELSE ∷ ELSE_PART ∷ ELSE_IF ∷ LITERAL ∷ []
 
 abbrev leveled : ℕ → List Symbol → Bool
 leveled n t = one_of n special || level t
@@ -207,9 +205,9 @@ block_grown x y a₁ p₁ t t' =
 chained : (h e : ℕ) → Iff (T (ltb h limit && ltb e limit)) (T (ltb h limit) × (suc e ≤ limit))
 chained h e = (λ t. let k = ltb→lt e limit (and_r (ltb h limit) (ltb e limit) t) in (and_l (ltb h limit) (ltb e limit) t, omega (arith, k)), λ v. let k = v.1 in both (ltb h limit) (ltb e limit) v.0 (lt→ltb e limit (omega (arith, k))))
 
-is_block : {t : List Symbol} → In t (alternatives l BLOCK) → t ≡ opens open-brace ∷ a STATEMENTS ∷ closes close-brace ∷ row kinds.BLOCK ∷ []
+is_block : {t : List Symbol} → In t (alternatives l BLOCK) → t ≡ opens open_brace ∷ a STATEMENTS ∷ closes close_brace ∷ row kinds.BLOCK ∷ []
 unfolding roto
-is_block {t} o = alt_at (λ (c : List Symbol). c ≡ opens open-brace ∷ a STATEMENTS ∷ closes close-brace ∷ row kinds.BLOCK ∷ []) o (refl, tt)
+is_block {t} o = alt_at (λ (c : List Symbol). c ≡ opens open_brace ∷ a STATEMENTS ∷ closes close_brace ∷ row kinds.BLOCK ∷ []) o (refl, tt)
 
 module _ (s : List ℕ) where
   abbrev pub F : ℕ → Mode → Grove → Type 0
@@ -247,7 +245,7 @@ module _ (s : List ℕ) where
 
   -- a phrase, then the rest
   phrase_fit : (n h e : ℕ) (al : List Symbol) (p q : Parts) (b : State) (A B : Type 0) → T (simple n) → Holds (class n) h e p A → ((c : State) → Iff (B × F h flat c.kids) (F h flat (grow q c).kids)) → Iff ((A × B) × F h flat b.kids) (F h flat (grow (node n al p q) b).kids)
-  phrase_fit n h e al p q b A B t c rec = go (one_of n (ELSE ∷ ELSE-PART ∷ [])) (eqb n ELSE-IF) (one_of n rest_kinds) refl t c
+  phrase_fit n h e al p q b A B t c rec = go (one_of n (ELSE ∷ ELSE_PART ∷ [])) (eqb n ELSE_IF) (one_of n rest_kinds) refl t c
     where
       go : (x y z : Bool) → one_of n rest_kinds ≡ z → T (not x && not y) → Holds (cond x elses (cond y else_if (cond z follows own))) h e p A → Iff ((A × B) × F h flat b.kids) (F h flat (grow (node n al p q) b).kids)
       go true y z i t c = absurd t
@@ -349,7 +347,7 @@ module _ (s : List ℕ) where
     -- such a phrase
     level_step : (n : ℕ) {al : List Symbol} {d : Counts} {i r : S.Place} {p : Parts} → T (simple n) → T (level al) → (u : ReadingBy S l G d al i r p) → AllC u → Holds (class n) d.heads d.else_ifs p (AllHeads u)
     unfolding Fit
-    level_step n {d = d} {p = p} t k u c = go (one_of n (ELSE ∷ ELSE-PART ∷ [])) (eqb n ELSE-IF) (one_of n rest_kinds) t
+    level_step n {d = d} {p = p} t k u c = go (one_of n (ELSE ∷ ELSE_PART ∷ [])) (eqb n ELSE_IF) (one_of n rest_kinds) t
       where
         go : (x y z : Bool) → T (not x && not y) → Holds (cond x elses (cond y else_if (cond z follows own))) d.heads d.else_ifs p (AllHeads u)
         go true y z t = absurd t
@@ -425,7 +423,7 @@ module _ (s : List ℕ) where
         subst (λ (g : Grove). Iff (T (ltb h limit) × (AllHeads u₀ × (Unit {0} × (AllHeads u₁ × (AllHeads u₂ × Unit {0}))))) (F h flat g)) (sym (for_grown x y a₀ a₁ a₂ p₀ p₁ p₂ (plain_word x ('for' ∷ []) tt m) (plain_word y ('in' ∷ []) tt m')))
         (λ v. (w.0 v.0, f.0 (c.0.0 v.1.0, c.1.0.0 v.1.1.1.0, c.1.1.0.0 v.1.1.1.1.0), tt), λ v. let z = f.1 v.1 in (w.1 v.0, (c.0.1 z.0, (tt, (c.1.0.1 z.1, (c.1.1.0.1 z.2, tt))))))
 
-    match_step : {d : Counts} {i r : S.Place} {p : Parts} (u : ReadingBy S l G d (head 'match' ∷ a (EXPR no_records) ∷ opens open-brace ∷ behind ARMS ∷ closes close-brace ∷ row kinds.MATCH ∷ []) i r p) → AllC u → Holds own d.heads d.else_ifs p (AllHeads u)
+    match_step : {d : Counts} {i r : S.Place} {p : Parts} (u : ReadingBy S l G d (head 'match' ∷ a (EXPR no_records) ∷ opens open_brace ∷ behind ARMS ∷ closes close_brace ∷ row kinds.MATCH ∷ []) i r p) → AllC u → Holds own d.heads d.else_ifs p (AllHeads u)
     unfolding AllHeads AllC Fit after inside
     match_step {d = d} (reads_token {x = x} e m k (reads_phrase {a = a₁} {p = p₁} y₁ u₁ (reads_token {x = y} e' m' k' (reads_phrase {a = a₂} {p = p₂} y₂ u₂ (reads_token {x = z} e'' m'' k'' (reads_note reads_end)))))) c =
         let h = d.heads in
@@ -434,7 +432,7 @@ module _ (s : List ℕ) where
         let o₁ = leaves_one (EXPR no_records) y₁ tt u₁ in
         let f = one_fit h g₁ g₂ o₁ in
         let w = here_four h kinds.MATCH g₁ g₂ tt (λ t. t) o₁ in
-        subst (λ (g : Grove). Iff (T (ltb h limit) × (AllHeads u₁ × (Unit {0} × (AllHeads u₂ × (Unit {0} × Unit {0}))))) (F h flat g)) (sym (match_grown x y z a₁ a₂ p₁ p₂ (plain_word x ('match' ∷ []) tt m) (plain_word y (open-brace ∷ []) tt m') (plain_word z (close-brace ∷ []) tt m'')))
+        subst (λ (g : Grove). Iff (T (ltb h limit) × (AllHeads u₁ × (Unit {0} × (AllHeads u₂ × (Unit {0} × Unit {0}))))) (F h flat g)) (sym (match_grown x y z a₁ a₂ p₁ p₂ (plain_word x ('match' ∷ []) tt m) (plain_word y (open_brace ∷ []) tt m') (plain_word z (close_brace ∷ []) tt m'')))
         (λ v. (w.0 v.0, f.0 (c.0.0 v.1.0, c.1.0.0 v.1.1.1.0), tt), λ v. let b = f.1 v.1 in (w.1 v.0, (c.0.1 b.0, (tt, (c.1.0.1 b.1, (tt, tt))))))
 
     -- behind an `if`
@@ -442,14 +440,14 @@ module _ (s : List ℕ) where
     unfolding AllHeads Fit grow
     none_step reads_end c = λ b. (nil, sym (beside_nil b.kids), (λ v. tt, λ v. tt))
 
-    else_step : {d : Counts} {i r : S.Place} {p : Parts} (u : ReadingBy S l G d (word 'else' ∷ a ELSE-PART ∷ []) i r p) → AllC u → Holds elses d.heads d.else_ifs p (AllHeads u)
+    else_step : {d : Counts} {i r : S.Place} {p : Parts} (u : ReadingBy S l G d (word 'else' ∷ a ELSE_PART ∷ []) i r p) → AllC u → Holds elses d.heads d.else_ifs p (AllHeads u)
     unfolding AllHeads AllC grow after inside
     else_step (reads_token {x = x} e m k (reads_phrase {a = a₁} {p = p₁} y₁ u₁ reads_end)) c = λ b.
         let z = c.0 (with_word x b) in
-        (z.0, ap (λ (w : State). w.kids) (grow_leaf x (node ELSE-PART a₁ p₁ end) b (plain_word x ('else' ∷ []) tt m) ∙ grow_rest ELSE-PART a₁ p₁ end (with_word x b) refl) ∙ z.1, (λ v. z.2.0 v.1.0, λ v. (tt, (z.2.1 v, tt))))
+        (z.0, ap (λ (w : State). w.kids) (grow_leaf x (node ELSE_PART a₁ p₁ end) b (plain_word x ('else' ∷ []) tt m) ∙ grow_rest ELSE_PART a₁ p₁ end (with_word x b) refl) ∙ z.1, (λ v. z.2.0 v.1.0, λ v. (tt, (z.2.1 v, tt))))
 
-    block_leaves : {d : Counts} {i r : S.Place} {p : Parts} → ReadingBy S l G d (opens open-brace ∷ a STATEMENTS ∷ closes close-brace ∷ row kinds.BLOCK ∷ []) i r p → (h : Head) × (k : Grove) × ((grow p fresh).kids ≡ top h k nil) × (h.kind ≡ kinds.BLOCK)
-    block_leaves (reads_token {x = x} e m k (reads_phrase {a = a₁} {p = p₁} y u (reads_token {x = y'} e' m' k' (reads_note reads_end)))) = block_grown x y' a₁ p₁ (plain_word x (open-brace ∷ []) tt m) (plain_word y' (close-brace ∷ []) tt m')
+    block_leaves : {d : Counts} {i r : S.Place} {p : Parts} → ReadingBy S l G d (opens open_brace ∷ a STATEMENTS ∷ closes close_brace ∷ row kinds.BLOCK ∷ []) i r p → (h : Head) × (k : Grove) × ((grow p fresh).kids ≡ top h k nil) × (h.kind ≡ kinds.BLOCK)
+    block_leaves (reads_token {x = x} e m k (reads_phrase {a = a₁} {p = p₁} y u (reads_token {x = y'} e' m' k' (reads_note reads_end)))) = block_grown x y' a₁ p₁ (plain_word x (open_brace ∷ []) tt m) (plain_word y' (close_brace ∷ []) tt m')
 
     block_step : {d : Counts} {i r : S.Place} {p : Parts} (u : ReadingBy S l G d (a BLOCK ∷ []) i r p) → AllC u → Holds elses d.heads d.else_ifs p (AllHeads u)
     unfolding AllHeads AllC grow inside
@@ -458,9 +456,9 @@ module _ (s : List ℕ) where
         let f = block_fit d.heads d.else_ifs g (block_leaves (subst (λ (t : List Symbol). ReadingBy S l G d t i' j' p₂) (is_block y) u)) in
         (g, ap (λ (w : State). w.kids) (grow_phrase BLOCK al p₂ end b refl), (λ v. f.0 (c.0.0 v.0), λ v. (c.0.1 (f.1 v), tt)))
 
-    chain_step : {d : Counts} {i r : S.Place} {p : Parts} (u : ReadingBy S l G d (a ELSE-IF ∷ []) i r p) → AllC u → Holds elses d.heads d.else_ifs p (AllHeads u)
+    chain_step : {d : Counts} {i r : S.Place} {p : Parts} (u : ReadingBy S l G d (a ELSE_IF ∷ []) i r p) → AllC u → Holds elses d.heads d.else_ifs p (AllHeads u)
     unfolding AllHeads AllC grow inside
-    chain_step (reads_phrase {a = al} {p = p₂} y u reads_end) c = λ b. ((grow p₂ fresh).kids, ap (λ (w : State). w.kids) (grow_phrase ELSE-IF al p₂ end b refl), (λ v. c.0.0 v.0, λ v. (c.0.1 v, tt)))
+    chain_step (reads_phrase {a = al} {p = p₂} y u reads_end) c = λ b. ((grow p₂ fresh).kids, ap (λ (w : State). w.kids) (grow_phrase ELSE_IF al p₂ end b refl), (λ v. c.0.0 v.0, λ v. (c.0.1 v, tt)))
 
 -- ---- every phrase
 
@@ -479,20 +477,20 @@ module _ (s : List ℕ) (S : Stream) (G : Ask → Counts → Token → Bool) whe
   unfolding roto
   else_steps t o = alt_at (At ELSE) o (λ d i r p u c. none_step s u c, (λ d i r p u c. else_step s u c, tt))
 
-  part_steps : By ELSE-PART
+  part_steps : By ELSE_PART
   unfolding roto
-  part_steps t o = alt_at (At ELSE-PART) o (λ d i r p u c. block_step s u c, (λ d i r p u c. chain_step s u c, tt))
+  part_steps t o = alt_at (At ELSE_PART) o (λ d i r p u c. block_step s u c, (λ d i r p u c. chain_step s u c, tt))
 
-  else_ifs : By ELSE-IF
+  else_ifs : By ELSE_IF
   unfolding roto
-  else_ifs t o = alt_at (At ELSE-IF) o (λ d i r p u c. else_if_step s u c, tt)
+  else_ifs t o = alt_at (At ELSE_IF) o (λ d i r p u c. else_if_step s u c, tt)
 
   literal_steps : By LITERAL
   unfolding roto
   literal_steps t o = alt_at (At LITERAL) o (λ d i r p u c. literal_step s u, tt)
 
   simply : (n : ℕ) → T (not (one_of n special)) → T (simple n)
-  simply n t = go (eqb n FOUR) (eqb n ELSE) (eqb n ELSE-PART) (eqb n ELSE-IF) (eqb n LITERAL) t
+  simply n t = go (eqb n FOUR) (eqb n ELSE) (eqb n ELSE_PART) (eqb n ELSE_IF) (eqb n LITERAL) t
     where
       go : (a b c d e : Bool) → T (not (a || (b || (c || (d || (e || false)))))) → T (not (b || (c || false)) && not d)
       go true b c d e t = absurd t

@@ -2,7 +2,6 @@ pub mod Tested
 pub mod Counted
 pub mod Balanced
 pub mod Quotes
-pub mod Heavy
 pub mod Copied
 pub mod Two
 pub mod Singles

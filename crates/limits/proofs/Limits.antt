@@ -7,7 +7,7 @@ use native.Mathlib.Omega.{arith}
 use lib.Dec.{T}
 use lib.ListN.{length}
 use Rattle.grammar.specs.Grammar.{Ask, plain, has_value, opens_bracket, closes_bracket, is_prefix, is_head, is_else_if, Token, Parts}
-use Rattle.grammar.specs.Kinds.{phrases}
+use Rattle.grammar.specs.Kinds.{TREE}
 use Rattle.grammar.specs.Limits.{Counts, zeros, kept}
 use Rattle.answers.specs.Demands.{Reading, rows_of}
 use Rattle.answers.specs.Source.{source}
@@ -25,14 +25,12 @@ use Rattle.roundtrip.proofs.Lasts.{all_worded, last_ends}
 use Rattle.roundtrip.proofs.Meets.{spelt, spells_last}
 use Rattle.roundtrip.proofs.ReadsBack.{paths}
 use Rattle.sink.specs.Few.{few}
-use Rattle.sink.specs.Low.{low}
-use Rattle.limits.specs.Within.{nothing_yet, within}
+use Rattle.limits.specs.Within.{nothing_yet, within, low}
 use Rattle.limits.proofs.Counted.{bounded_reads}
 use Rattle.limits.proofs.Copied.{spells_bounded}
 use Rattle.limits.proofs.Two.{two}
 use Rattle.limits.proofs.Tested.{AllHeads, kept_heads}
 use Rattle.limits.proofs.Heads.{flat, Fit, heads_told}
-open phrases use {TREE}
 
 passes : (g : Ask) (d : Counts) (x y : Token) → Like x y → T (kept g d x) → T (kept g d y)
 unfolding kept

@@ -7,21 +7,19 @@ use Prim.Native.Nat.{ℕ, zero, suc, pred, ◌+◌, ◌≤◌}
 use native.Mathlib.Omega.{arith}
 use lib.Dec.{T, T_not, eqb, ltb, ltb→lt, lt→ltb}
 use Rattle.grammar.proofs.Bools.{and_l, and_r, both, or_cases, or_l, or_r}
-use Rattle.grammar.specs.Words.{return_words, words}
-use Rattle.rows.specs.Kinds.{kinds}
+use Rattle.grammar.specs.Words.{'if', return_words}
+use Rattle.rows.specs.Kinds as kinds
 use Rattle.grammar.specs.Grammar.{Parts, one_of}
 use Rattle.grammar.specs.Readings.{Text}
 use Rattle.grammar.specs.Language.{roto, goal}
 use Rattle.answers.specs.Source.{source}
-use Rattle.answers.specs.Demands.{ByRules}
 use Rattle.canon.specs.Trees.{Label, Forest}
 use Rattle.canon.specs.Layout.{Place, whole, level, begins, empty, needs, Slot, Entry, layout_in, layouts, layout, left, right, pathless, left_level, binary_level, nth, only_if, done, by, and_then, ◌then◌, body, first_kind, rest}
 use Rattle.canon.specs.Text.{inner, place_of, later}
 use Rattle.forests.specs.Planted.{Marked, no_more, stands, unmarked, marked}
 use Rattle.forests.specs.Met.{within, served, Met}
-use Rattle.forests.proofs.Sources.{source_fits, rules_fit}
+use Rattle.forests.proofs.Sources.{source_fits}
 use Rattle.limits.specs.Pairs.{and_one, NoMore}
-open words use {'if'}
 
 -- ---- places that ask no more
 
@@ -207,7 +205,3 @@ no_more_pairs p q xs ys (stands k a kids ts) h r =
 -- in every reading of every source
 pub source_pairs : (s : List ℕ) (tests tree : Bool) {p : Parts} → Text (source s) (roto tests) (goal tree) 0 p → NoMore 0 0 [] (marked s tree p)
 source_pairs s tests tree {p} t = no_more_pairs 0 0 [] [] (marked s tree p) (source_fits s tests tree t) (inl (omega arith, no_slots))
-
--- so by the rules alone
-pub rules_pairs : (s : List ℕ) (tests tree : Bool) {p : Parts} → ByRules tests tree s p → NoMore 0 0 [] (marked s tree p)
-rules_pairs s tests tree {p} t = no_more_pairs 0 0 [] [] (marked s tree p) (rules_fit s tests tree t) (inl (omega arith, no_slots))

@@ -15,14 +15,13 @@ use Rattle.tokens.specs.declared.Step.TheVariants.{Taken, Refused}
 use Rattle.tokens.specs.Blanks.{skip_all}
 use Rattle.tokens.specs.Rules.{pair_at, ipv6_at, ipv4_at, two_at, one_at, as_at, hex_at, number_at, quote_at, name_at, taken, refused, or_else, token_at}
 use Rattle.tokens.specs.Tokens.{step_at}
-use Rattle.grammar.specs.Words.{words}
+use Rattle.grammar.specs.Words.{f_quote}
 use Rattle.grammar.specs.Grammar.{Token, found}
 use Rattle.answers.specs.Source.{source}
 use Rattle.answers.proofs.Ahead.{Steps, steps_token, step_goes}
 use Rattle.literals.proofs.Parts.{byte_part}
 use Rattle.respell.proofs.Looks.{Seen, by_rule, by_quote, seen, look_start}
-use Rattle.sink.specs.Low.{quoted}
-open words use {f-quote}
+use Rattle.limits.specs.Within.{quoted}
 
 -- 5 is said of these two bytes alone
 abbrev Paired : List ℕ → ℕ → Step → Type 0
@@ -60,7 +59,7 @@ step_paired s i = by (ltb (skip_all s i) (length s))
     by false = none_paired s (skip_all s i) 11 (length s) (length s) (λ n. omega arith)
 
 -- the two bytes of an f-string's first token
-quote_bytes : (s : List ℕ) (i : ℕ) (x : Token) (j : ℕ) → (source s).look i ≡ found x j → x.word ≡ f-quote → pair_at s x.start 102 34 ≡ true
+quote_bytes : (s : List ℕ) (i : ℕ) (x : Token) (j : ℕ) → (source s).look i ≡ found x j → x.word ≡ f_quote → pair_at s x.start 102 34 ≡ true
 quote_bytes s i x j z w = by (seen s i x j z)
   where
     small : {v a : ℕ} {n : _} → Steps s i (Taken v a n) → v < 90
@@ -70,7 +69,7 @@ quote_bytes s i x j z w = by (seen s i x j z)
     by (by_rule v a n e f u) = let c : v ≡ x.word = sym (ap (λ (o : Token). o.word) f) in let h = small (subst (Steps s i) e (step_goes s i)) in absurd (omega (arith, c, h, w))
     by (by_quote r e m f u) = ap (λ (a : ℕ). pair_at s a 102 34) (look_start s i x j z) ∙ subst (Paired s (skip_all s i)) e (step_paired s i) m
 
-pub quote_text : (s : List ℕ) (i : ℕ) (x : Token) (j r : ℕ) → (source s).look i ≡ found x j → x.word ≡ f-quote → x.start + 1 < r → r ≤ length s → quoted (slice x.start r s) ≡ true
+pub quote_text : (s : List ℕ) (i : ℕ) (x : Token) (j r : ℕ) → (source s).look i ≡ found x j → x.word ≡ f_quote → x.start + 1 < r → r ≤ length s → quoted (slice x.start r s) ≡ true
 unfolding pair_at
 quote_text s i x j r z w h k =
     let a = x.start in

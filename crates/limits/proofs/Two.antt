@@ -3,12 +3,12 @@ use mathlib.Core.List.{List, [], ◌∷◌}
 use mathlib.Core.Bool.{Bool, true, false, not, ◌&&◌, ◌||◌, cond}
 use Prim.Native.Nat.{ℕ, suc, pred, ◌+◌}
 use lib.Dec.{T, ltb, leb}
+use lib.ListN.{length}
 use Rattle.grammar.specs.Limits.{limit}
 use Rattle.grammar.proofs.Bools.{and_l, and_r, both}
 use Rattle.canon.specs.Text.{Bit, sign, copy}
 use Rattle.sink.specs.Few.{few}
-use Rattle.sink.specs.Low.{quoted, weight, low}
-use Rattle.limits.specs.Within.{opening, closing, prefixing, Tally, behind, allowed, within}
+use Rattle.limits.specs.Within.{opening, closing, prefixing, Tally, behind, allowed, quoted, within, low}
 
 abbrev pub tally : ℕ → ℕ → Tally
 tally b c = record { brackets = b; prefixes = c }
@@ -34,4 +34,4 @@ two b c (sign w ∷ bs) f t =
     let t' = low_on (opening w) (closing w) b bs t in
     let on : Tally = behind w (tally b c) in
     both (allowed w (tally b c)) (within on bs) (both (not (opening w) || ltb b limit) (not (prefixing w) || ltb c limit) t'.0 f'.0) (two on.brackets on.prefixes bs f'.1 t'.1)
-two b c (copy t ∷ bs) f u = copy_on (quoted t) (weight t) b bs u (λ u'. two b 0 bs f u')
+two b c (copy t ∷ bs) f u = copy_on (quoted t) (length t) b bs u (λ u'. two b 0 bs f u')

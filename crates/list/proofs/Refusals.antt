@@ -86,10 +86,6 @@ abbrev accepts : Answer → Bool
 accepts a = eqb a.number 0
 
 module _ (s : List ℕ) (n : ℕ) where
-  pub whole_answer : {r : Refusal} → whole_of s ≡ Bad r → refusal r ≡ answer_of s n
-  unfolding answer_of
-  whole_answer e = rw e refl
-
   pub whole_fails : {r : Refusal} → whole_of s ≡ Bad r → eqb (answer_of s n).number 0 ≡ false
   unfolding answer_of
   whole_fails {r} e = rw e (ne_eqb _ _ (subst WholeNumbered e (whole_numbered s)))

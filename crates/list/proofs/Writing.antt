@@ -10,7 +10,6 @@ use lib.ListN.{length, set, length-set, take, drop, replicate, length-drop, take
 use lib.Seq.{take-suc-set, take-set-le, take_at, drop_at, take_all}
 use lib.Dec.{eqb, ltb}
 use borrow.Author.Tests.{ne_eqb, le-leb, ltb-true, ltb-false}
-use Rattle.chars.specs.declared.Answer.{Answer}
 use Rattle.tokens.specs.declared.Token.{Token}
 use Rattle.tokens.specs.declared.Cursor.{Cursor}
 use Rattle.tokens.specs.declared.Refusal.{Refusal}
@@ -18,14 +17,14 @@ use Rattle.tokens.specs.declared.Step.{Step}
 use Rattle.tokens.specs.declared.Step.TheVariants.{Taken, Refused}
 use Rattle.tokens.specs.declared.Whole.{Whole}
 use Rattle.tokens.specs.declared.Whole.TheVariants.{Fine, Refused as Bad}
-use Rattle.tokens.specs.Tokens.{step_at, whole_of, token_of, list_from, list_of, refusal, last_of, answer_of}
+use Rattle.tokens.specs.Tokens.{step_at, whole_of, token_of, list_from, list_of, last_of, answer_of}
 use Rattle.tokens.proofs.Steps.{taken_good}
 use Rattle.tokens.proofs.Lists.{list_taken, list_refused, enough, Counted, none_counted, one_counted, all_counted}
 use Rattle.list.specs.declared.State.{State}
 use Rattle.list.specs.declared.Stored.{Stored}
 use Rattle.list.specs.Filled.{zero_token, filled}
 use Rattle.list.specs.States.{failed, complete, ended, onward, standing, begun_by, begun, read_by, zero_next, next_of}
-use Rattle.list.proofs.Refusals.{refusal_numbered, whole_answer, whole_fails, more_fails}
+use Rattle.list.proofs.Refusals.{refusal_numbered, whole_fails, more_fails}
 
 -- the front of a list, one longer
 one_more : (xs : List Token) (p : ℕ) {t : Token} {rest : List Token} → drop p xs ≡ t ∷ rest → (take (suc p) xs ≡ take p xs ++ t ∷ []) × (drop (suc p) xs ≡ rest)
@@ -91,9 +90,9 @@ module _ (s : List ℕ) (n : ℕ) where
   abbrev pub turns : State → ℕ
   turns st = cond st.reading (suc n) 0 + (n - st.place)
 
-  failed_good : (l : List Token) {a : Answer} → a ≡ answer_of s n → eqb (answer_of s n).number 0 ≡ false → Good (failed a) l × (turns (failed a) ≤ n)
+  failed_good : (l : List Token) → eqb (answer_of s n).number 0 ≡ false → Good (failed s n) l × (turns (failed s n) ≤ n)
   unfolding failed filled
-  failed_good l e h = (record { answered = e; within = omega arith; zeros = rw h (ap (λ m. replicate m zero_token) (sym (sub-zero n))); same = refl }, omega arith)
+  failed_good l h = (record { answered = refl; within = omega arith; zeros = rw h (ap (λ m. replicate m zero_token) (sym (sub-zero n))); same = refl }, omega arith)
 
   -- all p tokens are read
   module _ (p : ℕ) (h : p ≤ n) (l : List Token) (same : take p l ≡ take p all) where
@@ -112,9 +111,9 @@ module _ (s : List ℕ) (n : ℕ) where
         count : length all ≡ p
         count = omega (arith, k.counted.so_far, length-drop p all, ap length (k.left ∙ tokens_refused s at e))
 
-        go : (t : Bool) → eqb f.number 11 ≡ t → Good (cond t (complete s p) (failed (refusal f))) l × (turns (cond t (complete s p) (failed (refusal f))) ≤ n)
+        go : (t : Bool) → eqb f.number 11 ≡ t → Good (cond t (complete s p) (failed s n)) l × (turns (cond t (complete s p) (failed s n)) ≤ n)
         go true i = complete_good count (sym (rw (i, le-leb p n h)) ∙ answer)
-        go false i = failed_good l (sym (rw i refl) ∙ answer) (ap (λ a. eqb a.number 0) (sym answer) ∙ rw i (ne_eqb f.number 0 (refusal_numbered s at e)))
+        go false i = failed_good l (ap (λ a. eqb a.number 0) (sym answer) ∙ rw i (ne_eqb f.number 0 (refusal_numbered s at e)))
 
     -- p tokens stand in the list, and the source may go on
     standing_good : {c : Cursor} → Read c.at p → Good (standing s n c p) l × (turns (standing s n c p) ≤ suc n + (n - p))
@@ -122,7 +121,7 @@ module _ (s : List ℕ) (n : ℕ) where
     standing_good {c} k = go (ltb p n) refl
       where
         full_good : (x : Step) → step_at s c.at ≡ x → n ≤ p → Good (ended s n p x) l × (turns (ended s n p x) ≤ n)
-        full_good (Taken w a next) e i = failed_good l refl (more_fails s n k.fine (omega (arith, i, length-drop p all, ap length (k.left ∙ tokens_taken s c.at k.counted.inside e))))
+        full_good (Taken w a next) e i = failed_good l (more_fails s n k.fine (omega (arith, i, length-drop p all, ap length (k.left ∙ tokens_taken s c.at k.counted.inside e))))
         full_good (Refused f) e i = ended_good k e
 
         go : (t : Bool) → ltb p n ≡ t → Good (cond t (onward c p) (ended s n p (step_at s c.at))) l × (turns (cond t (onward c p) (ended s n p (step_at s c.at))) ≤ suc n + (n - p))
@@ -135,7 +134,7 @@ module _ (s : List ℕ) (n : ℕ) where
     where
       go : (x : Whole) → whole_of s ≡ x → Good (begun_by s n x) l
       go Fine e = (standing_good 0 (omega arith) l refl (record { fine = e; counted = none_counted s refl; left = all_tokens s })).0
-      go (Bad r) e = (failed_good l (whole_answer s n e) (whole_fails s n e)).0
+      go (Bad r) e = (failed_good l (whole_fails s n e)).0
 
   -- what one turn leaves
   module _ (st : State) (l : List Token) (long : length l ≡ n) (room : st.place < n) where

@@ -1,12 +1,11 @@
 -- What the writer's scanning functions say.
 use Rattle.std.specs.Prelude.{ℕ, ◌+◌, List, true, false, cond, eqb, ltb, length}
-use Rattle.chars.specs.declared.Answer.{Answer}
 use Rattle.tokens.specs.declared.Cursor.{Cursor}
 use Rattle.tokens.specs.declared.Step.{Step}
 use Rattle.tokens.specs.declared.Step.TheVariants.{Taken, Refused}
 use Rattle.tokens.specs.declared.Whole.{Whole}
 use Rattle.tokens.specs.declared.Whole.TheVariants.{Fine, Refused as Bad}
-use Rattle.tokens.specs.Tokens.{step_at, whole_of, token_of, refusal, answer_of}
+use Rattle.tokens.specs.Tokens.{step_at, whole_of, token_of, answer_of}
 use Rattle.list.specs.declared.State.{State}
 use Rattle.list.specs.declared.Stored.{Stored}
 use Rattle.list.specs.Filled.{zero_token}
@@ -15,9 +14,8 @@ use Rattle.list.specs.Filled.{zero_token}
 abbrev pub beginning : Cursor
 beginning = record { at = 0 }
 
--- the answer is that of a source that isn't accepted
-unfoldable pub failed : Answer → State
-failed a = record { reading = false; cursor = beginning; place = 0; answer = a }
+unfoldable pub failed : List ℕ → ℕ → State
+failed s n = record { reading = false; cursor = beginning; place = 0; answer = answer_of s n }
 
 -- the source ends behind so many tokens
 unfoldable pub complete : List ℕ → ℕ → State
@@ -25,8 +23,8 @@ complete s p = record { reading = false; cursor = beginning; place = p; answer =
 
 -- no token is stored behind the first p
 unfoldable pub ended : List ℕ → ℕ → ℕ → Step → State
-ended s n p (Taken w a next) = failed (answer_of s n)
-ended s n p (Refused r) = cond (eqb r.number 11) (complete s p) (failed (refusal r))
+ended s n p (Taken w a next) = failed s n
+ended s n p (Refused r) = cond (eqb r.number 11) (complete s p) (failed s n)
 
 unfoldable pub onward : Cursor → ℕ → State
 onward cursor p = record { reading = true; cursor = cursor; place = p; answer = record { number = 0; start = 0; end = 0; count = 0 } }
@@ -36,7 +34,7 @@ standing s n cursor p = cond (ltb p n) (onward cursor p) (ended s n p (step_at s
 
 unfoldable pub begun_by : List ℕ → ℕ → Whole → State
 begun_by s n Fine = standing s n beginning 0
-begun_by s n (Bad r) = failed (refusal r)
+begun_by s n (Bad r) = failed s n
 
 unfoldable pub begun : List ℕ → ℕ → State
 begun s n = begun_by s n (whole_of s)

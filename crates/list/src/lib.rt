@@ -1,12 +1,12 @@
-// Entry point (c): a source's tokens, written to a lent run of token structs. A source is scanned once, but where its tokens need more room.
+// Entry point (c): a source's tokens, written to a lent run of token structs. A source that is accepted is scanned once.
 // `tokens` alone has that run, and only stores; what scans is covered.
 ghost use Rattle.std.specs.Prelude.{◌≡◌, ◌<◌, length};
-ghost use Rattle.tokens.specs.Tokens.{step_at, refusal, answer_of};
+ghost use Rattle.tokens.specs.Tokens.{step_at, answer_of};
 ghost use Rattle.list.specs.Filled.{zero_token, filled};
 ghost use Rattle.list.specs.States.{failed, ended, standing, begun, read_by, next_of};
 
 use chars::{Answer, refusal};
-use tokens::{Cursor, Refusal, Step, Token, Whole};
+use tokens::{Cursor, Step, Token, Whole};
 
 // Where the writer stands: its place in the list, and whether tokens are read, from the cursor on, or zero tokens are left to store.
 #[derive(Drop)]
@@ -23,40 +23,27 @@ pub struct Stored {
     pub state: State,
 }
 
-// The list is to be zeros throughout.
-fn refuse(answer: Answer) -> State
-    ensures { result ≡ failed answer }
+// The list is to be zeros throughout: what is refused is scanned again for its answer.
+fn refuse(s: &[u8], room: usize) -> State
+    ensures { result ≡ failed s.now room }
 {
     State {
         reading: false,
         cursor: Cursor::new(),
         place: 0,
-        answer,
+        answer: tokens::count_tokens(s, room),
     }
 }
 
-// What is refused is answered with its number and place.
-fn refused_answer(r: Refusal) -> Answer
-    ensures { result ≡ refusal r }
-{
-    Answer {
-        number: r.number,
-        start: r.start,
-        end: r.end,
-        count: 0,
-    }
-}
-
-// No token is stored behind the first `count`: the source ends there, or it is refused, or there is no room. How many tokens need
-// room is known only when all are counted.
+// No token is stored behind the first `count`: the source ends there, or it is refused, or there is no room.
 fn end(s: &[u8], room: usize, count: usize, step: Step) -> State
     ensures { result ≡ ended s.now room count step }
 {
     let Step::Refused(r) = step else {
-        return refuse(tokens::count_tokens(s, room));
+        return refuse(s, room);
     };
     if r.number != 11 {
-        return refuse(refused_answer(r));
+        return refuse(s, room);
     }
     let answer = Answer {
         number: refusal::NONE,
@@ -99,7 +86,7 @@ fn begin(s: &[u8], room: usize) -> State
 {
     match tokens::check_source(s) {
         Whole::Fine => stand(s, room, Cursor::new(), 0),
-        Whole::Refused(r) => refuse(refused_answer(r)),
+        Whole::Refused(_) => refuse(s, room),
     }
 }
 

@@ -1,7 +1,7 @@
 -- Instructions, one a row, and what running them gives: literals, whose kinds are below that of an operator, are put on the stack, an
 -- operator takes two values, a sign one.
 use Rattle.std.specs.Prelude.{List, [], ◌∷◌, ◌||◌, cond, ℕ, zero, suc, ◌+◌, ◌*◌, ◌/◌, eqb, ltb, length, get_or}
-use Rattle.rows.specs.Kinds.{kinds}
+use Rattle.rows.specs.Kinds as kinds
 use Rattle.machine.specs.declared.Value.{Value}
 use Rattle.machine.specs.declared.Step.{Step}
 use Rattle.machine.specs.declared.Ran.{Ran}

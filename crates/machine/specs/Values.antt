@@ -4,7 +4,7 @@ use Rattle.std.specs.Int.Signed.{lt_z}
 use Rattle.std.specs.Float.Ieee as Ieee
 use Rattle.std.specs.Float.{binary64}
 use Rattle.std.specs.Float.Ieee.{of_bits, to_bits, nan_bits, is_nan}
-use Rattle.rows.specs.Kinds.{kinds}
+use Rattle.rows.specs.Kinds as kinds
 use Rattle.wholes.specs.Wholes.{span, lowest, number, quotient_of, remainder_of}
 use Rattle.wholes.specs.declared.Integer.{Integer}
 use Rattle.wholes.specs.declared.Part.{Part}

@@ -1,6 +1,5 @@
 // What a refusal says, in the filter author's words: a sentence for each number and, where the place tells, for each cause.
-use super::said::{Said, sentence};
-use super::{said, values, words};
+use super::{text, values, words};
 use chars::{Answer, refusal};
 use tokens::{Cursor, Step, word};
 
@@ -38,24 +37,56 @@ fn word_at(s: &[u8], at: usize) -> u64 {
     if start == at { w } else { word::NONE }
 }
 
+// A part of the source in quotes, unless it has its own.
+fn quoted(out: &mut [u8], at: usize, s: &[u8], start: usize, end: usize) -> usize {
+    let b = chars::byte_at(s, start);
+    if (b == QUOTE) | (b == APOSTROPHE) {
+        return values::told(out, at, s, start, end);
+    }
+    let mut n = text::put(out, at, b'\'');
+    n = values::told(out, n, s, start, end);
+    text::put(out, n, b'\'')
+}
+
 // 2: a byte-order mark has bytes of its own.
-fn high_byte(s: &[u8], start: usize) -> Said {
+fn high_byte(out: &mut [u8], at: usize, s: &[u8], start: usize) -> usize {
     let b = chars::byte_at(s, start);
     if (start == 0) & ((b == MARK_8) | (MARK_16 <= b)) {
-        return said::plain(sentence::BYTE_ORDER_MARK);
+        return text::raw(
+            out,
+            at,
+            b"the file begins with a byte-order mark: save it as ASCII or as UTF-8 without one",
+        );
     }
-    said::of(sentence::HIGH_BYTE, start, start)
+    let mut n = text::raw(out, at, b"byte 0x");
+    n = text::hex(out, n, byte(s, start));
+    text::raw(
+        out,
+        n,
+        b" is not ASCII: write ASCII alone, in comments too, and \\u{..} in a string",
+    )
+}
+
+fn byte(s: &[u8], at: usize) -> u8 {
+    if at < s.len() {
+        return s[at];
+    }
+    0
 }
 
 // 4 at a quote: the text has no closing one, or has it as the last byte of the file.
-fn open_quote(s: &[u8], start: usize) -> Said {
+fn open_quote(out: &mut [u8], at: usize, s: &[u8], start: usize) -> usize {
     let size = s.len();
     let last = std::num::wrapping_sub_usize(size, 1);
     let quote = chars::byte_at(s, start);
     if (start < last) & (chars::byte_at(s, last) == quote) & !escaped(s, start, last) {
-        return said::of(sentence::NEEDS_NEWLINE, start, size);
+        let n = quoted(out, at, s, start, size);
+        return text::raw(out, n, b" at the end of a file needs a newline after it");
     }
-    said::of(sentence::NO_CLOSING, start, start)
+    let n = text::raw(out, at, b"a text that begins with ");
+    let n = text::put(out, n, byte(s, start));
+    let n = text::raw(out, n, b" has no closing ");
+    text::put(out, n, byte(s, start))
 }
 
 // Whether a backslash that begins an escape stands before the last byte: an odd number of them.
@@ -74,24 +105,27 @@ fn escaped(s: &[u8], start: usize, last: usize) -> bool {
 }
 
 // 4: no token starts with this byte.
-fn no_token(s: &[u8], start: usize) -> Said {
+fn no_token(out: &mut [u8], at: usize, s: &[u8], start: usize) -> usize {
     let b = chars::byte_at(s, start);
     if (b == QUOTE) | (b == APOSTROPHE) {
-        return open_quote(s, start);
+        return open_quote(out, at, s, start);
     }
-    said::of(no_sign(b), start, std::num::wrapping_add_usize(start, 1))
-}
-
-fn no_sign(b: u16) -> usize {
+    if b == HASH {
+        return text::raw(out, at, b"'#' means nothing here: a comment begins with //");
+    }
+    if b == AMPERSAND {
+        return text::raw(out, at, b"'&' alone means nothing: write '&&'");
+    }
+    if b == BAR {
+        return text::raw(out, at, b"'|' alone means nothing: write '||'");
+    }
     if (b < SPACE) | (b == DELETE) {
-        return sentence::CONTROL_BYTE;
+        let n = text::raw(out, at, b"byte 0x");
+        let n = text::hex(out, n, byte(s, start));
+        return text::raw(out, n, b" can't stand in a filter: remove it");
     }
-    match b {
-        HASH => sentence::HASH,
-        AMPERSAND => sentence::AMPERSAND,
-        BAR => sentence::BAR,
-        _ => sentence::NO_SIGN,
-    }
+    let n = quoted(out, at, s, start, std::num::wrapping_add_usize(start, 1));
+    text::raw(out, n, b" means nothing outside of strings and comments")
 }
 
 fn is_keyword(w: u64) -> bool {
@@ -99,86 +133,101 @@ fn is_keyword(w: u64) -> bool {
 }
 
 // 6: a keyword where a name could stand, one that declares nothing here, or another token.
-fn unusable(s: &[u8], start: usize, flags: &[u8]) -> usize {
-    let w = word_at(s, start);
+fn unusable(out: &mut [u8], at: usize, s: &[u8], a: Answer, flags: &[u8]) -> usize {
+    let n = quoted(out, at, s, a.start, a.end);
+    let w = word_at(s, a.start);
     if words::passed(flags, words::NAMES) & is_keyword(w) {
-        return sentence::KEYWORD;
+        return text::raw(out, n, b" is a keyword and can't be a name");
     }
     if words::passed(flags, words::CONST)
         & ((w == word::RECORD) | (w == word::ENUM) | (w == word::TEST))
     {
-        return sentence::NO_DECLARATION;
+        return text::raw(out, n, b" declares nothing in a filter file: remove it");
     }
-    sentence::UNUSABLE
+    text::raw(out, n, b" can't stand here")
 }
 
 // 9: by the token, which limit is passed.
-fn too_deep(s: &[u8], start: usize) -> usize {
+fn too_deep(out: &mut [u8], at: usize, s: &[u8], start: usize) -> usize {
     let w = word_at(s, start);
     if (w == word::ROUND_LEFT) | (w == word::SQUARE_LEFT) | (w == word::CURLY_LEFT) {
-        return sentence::BRACKETS;
+        return text::raw(
+            out,
+            at,
+            b"nested more than 32 deep: at most 32 brackets ( [ { can be open",
+        );
     }
     if w == word::IF {
-        return sentence::CHAIN;
+        return text::raw(
+            out,
+            at,
+            b"nested more than 32 deep: at most 32 'else if' in one chain, at most 32 'if', 'while', 'for' and 'match' before their '{'",
+        );
     }
     if (w == word::WHILE) | (w == word::FOR) | (w == word::MATCH) {
-        return sentence::HEADS;
+        return text::raw(
+            out,
+            at,
+            b"nested more than 32 deep: at most 32 'if', 'while', 'for' and 'match' before their '{'",
+        );
     }
-    sentence::PREFIXES
+    text::raw(
+        out,
+        at,
+        b"nested more than 32 deep: at most 32 of '!', '-', 'return', 'accept' and 'reject' in a row",
+    )
 }
 
 // 11: an f-string's text has no end, or the file ends where more has to stand. Behind a text that has no end a sign that begins no token is text.
-fn ends_early(room: &mut [u8], count: usize) -> usize {
+fn ends_early(out: &mut [u8], at: usize, room: &mut [u8], count: usize) -> usize {
     if !words::tried(room, count, b"$", 0, 1) {
-        return sentence::ENDS_EARLY;
+        return text::raw(out, at, b"the file ends too early");
     }
     if words::tried(room, count, b"\" $", 0, 3) {
-        return sentence::NO_BRACE;
+        return text::raw(out, at, b"\\u in an f-string needs a '{' after it");
     }
-    sentence::NO_QUOTE
+    text::raw(out, at, b"an f-string has no closing '\"'")
 }
 
 // 10, where a table was lent that is too small.
-fn no_room(count: usize) -> Said {
-    Said {
-        sentence: sentence::NO_ROOM,
-        from: 0,
-        to: 0,
-        end: 0,
-        number: count as u64,
-    }
+fn no_room(out: &mut [u8], at: usize, count: usize) -> usize {
+    let mut n = text::raw(out, at, b"no room: ");
+    n = text::decimal(out, n, count as u64);
+    text::raw(out, n, b" are needed")
 }
 
-// The numbers for which a sentence is enough.
-fn known(number: u64) -> usize {
-    match number {
-        refusal::TOO_LONG => sentence::TOO_LONG,
-        refusal::SHEBANG => sentence::SHEBANG,
-        refusal::F_STRING => sentence::F_STRING,
-        refusal::NO_PATH => sentence::NO_PATH,
-        _ => sentence::NOTHING,
-    }
-}
-
-// What a refusal of a source says.
-fn cause(s: &[u8], a: Answer, flags: &[u8]) -> Said {
+// What a refusal says. Behind `count` bytes of the room words can be tried; the flags say which the reader goes past.
+pub fn message(
+    out: &mut [u8],
+    at: usize,
+    s: &[u8],
+    a: Answer,
+    room: &mut [u8],
+    count: usize,
+    flags: &[u8],
+) -> usize {
     let start = a.start;
     let number = a.number;
     match number {
-        refusal::HIGH_BYTE => high_byte(s, start),
-        refusal::NO_TOKEN => no_token(s, start),
-        refusal::UNUSABLE => said::of(unusable(s, start, flags), start, a.end),
-        refusal::VALUELESS => values::valueless(s, start, a.end),
-        refusal::TOO_DEEP => said::plain(too_deep(s, start)),
-        refusal::NO_ROOM => no_room(a.count),
-        _ => said::plain(known(number)),
+        refusal::TOO_LONG => text::raw(out, at, b"the file has more than 65535 bytes: split it"),
+        refusal::HIGH_BYTE => high_byte(out, at, s, start),
+        refusal::SHEBANG => text::raw(out, at, b"a filter has no '#!' line: remove it"),
+        refusal::NO_TOKEN => no_token(out, at, s, start),
+        refusal::F_STRING => text::raw(
+            out,
+            at,
+            b"an f-string is more than a token: a token list can't hold it",
+        ),
+        refusal::UNUSABLE => unusable(out, at, s, a, flags),
+        refusal::VALUELESS => values::valueless(out, at, s, start, a.end),
+        refusal::NO_PATH => text::raw(
+            out,
+            at,
+            b"only a name or a path such as a.b can be assigned to; to compare, write '=='",
+        ),
+        refusal::TOO_DEEP => too_deep(out, at, s, start),
+        refusal::NO_ROOM => no_room(out, at, a.count),
+        refusal::ENDS_EARLY => ends_early(out, at, room, count),
+        _ => at,
     }
-}
-
-// The same where words can be tried behind `count` bytes of the room; the flags say which the reader goes past.
-pub fn message(s: &[u8], a: Answer, room: &mut [u8], count: usize, flags: &[u8]) -> Said {
-    if a.number == refusal::ENDS_EARLY {
-        return said::plain(ends_early(room, count));
-    }
-    cause(s, a, flags)
 }

@@ -1,12 +1,10 @@
 // Refusals of (a) in words, as text and as JSON, put into a lent buffer. Promises nothing but to be safe and to end.
 use chars::{Answer, refusal};
-use said::Said;
 use text::Form;
 use words::Items;
 
 mod causes;
-mod places;
-mod said;
+pub mod places;
 pub mod text;
 mod utf8;
 mod values;
@@ -38,19 +36,14 @@ fn expected(
     Items { end: 0, count: 0 }
 }
 
-// `:LINE:COLUMN`.
-fn spot(out: &mut [u8], at: usize, s: &[u8], place: usize) -> usize {
-    let spot = lines::spot_of(s, place);
-    let mut n = text::put(out, at, b':');
-    n = text::decimal(out, n, spot.line as u64);
-    n = text::put(out, n, b':');
-    text::decimal(out, n, spot.column as u64)
-}
-
 // `NAME:LINE:COLUMN: error[NUMBER]: `.
 fn head(out: &mut [u8], name: &[u8], s: &[u8], a: Answer) -> usize {
+    let spot = places::spot_of(s, a.start);
     let mut n = text::part(out, 0, Form::Named, name, 0, name.len());
-    n = spot(out, n, s, a.start);
+    n = text::put(out, n, b':');
+    n = text::decimal(out, n, spot.line as u64);
+    n = text::put(out, n, b':');
+    n = text::decimal(out, n, spot.column as u64);
     n = text::raw(out, n, b": error[");
     n = text::decimal(out, n, a.number);
     text::raw(out, n, b"]: ")
@@ -73,35 +66,22 @@ fn expectation(out: &mut [u8], at: usize, list: &[u8], items: Items) -> usize {
     text::put(out, n, b'\n')
 }
 
-// What is found out for a report: its sentence, and the list of what could stand at the place.
-#[derive(Drop)]
-struct Found {
-    said: Said,
-    items: Items,
-}
-
-// The room is for the source up to the place and a word more. Words are tried behind what stands between a place, where declarations begin, and
-// the refusal's.
-fn find(
+// What is lent for one report: the source up to the place and a word more, the words that could stand there, their list. Words are tried behind
+// what stands between a place, where declarations begin, and the refusal's.
+fn reported(
+    name: &[u8],
     s: &[u8],
     from: usize,
     a: Answer,
     room: &mut [u8],
     flags: &mut [u8],
     list: &mut [u8],
-    json: bool,
-) -> Found {
+    out: &mut [u8],
+) -> usize {
     let count = text::part(room, 0, Form::Raw, s, from, a.start);
-    let items = expected(a, room, count, flags, list, json);
-    let said = causes::message(s, a, room, count, flags);
-    Found { said, items }
-}
-
-fn reported(out: &mut [u8], name: &[u8], s: &[u8], a: Answer, f: Found, list: &[u8]) -> usize {
-    let said = f.said;
-    let items = f.items;
+    let items = expected(a, room, count, flags, list, false);
     let mut n = head(out, name, s, a);
-    n = said::put(out, n, s, said);
+    n = causes::message(out, n, s, a, room, count, flags);
     n = text::put(out, n, b'\n');
     n = places::shown(out, n, s, a.start, a.end);
     expectation(out, n, list, items)
@@ -124,8 +104,7 @@ pub fn report_from(
 ) -> usize {
     let mut flags = [0u8; words::COUNT];
     let mut list = io::buffer();
-    let f = find(s, from, a, room, &mut flags, &mut list, false);
-    reported(out, name, s, a, f, &list)
+    reported(name, s, from, a, room, &mut flags, &mut list, out)
 }
 
 // `"KEY":NUMBER,`.
@@ -156,8 +135,8 @@ pub fn json_head(out: &mut [u8], name: &[u8], status: &[u8]) -> usize {
 
 // Where a refusal is: line and column of its first byte and of the byte behind its last, and both by their number from 0.
 fn json_place(out: &mut [u8], at: usize, s: &[u8], a: Answer) -> usize {
-    let first = lines::spot_of(s, a.start);
-    let last = lines::spot_of(s, a.end);
+    let first = places::spot_of(s, a.start);
+    let last = places::spot_of(s, a.end);
     let mut n = field(out, at, b"line", first.line);
     n = field(out, n, b"column", first.column);
     n = field(out, n, b"endLine", last.line);
@@ -182,26 +161,30 @@ fn json_said(
     text::raw(out, n, b"]}\n")
 }
 
-fn json_found(out: &mut [u8], at: usize, s: &[u8], f: Found, list: &[u8]) -> usize {
-    let said = f.said;
-    let items = f.items;
-    let mut message = io::buffer();
-    let length = said::put(&mut message, 0, s, said);
-    json_said(out, at, &message, length, list, items)
-}
-
-fn json_reported(out: &mut [u8], name: &[u8], s: &[u8], a: Answer) -> usize {
+fn json_reported(
+    name: &[u8],
+    s: &[u8],
+    a: Answer,
+    room: &mut [u8],
+    flags: &mut [u8],
+    list: &mut [u8],
+    said: &mut [u8],
+    out: &mut [u8],
+) -> usize {
+    let count = text::part(room, 0, Form::Raw, s, 0, a.start);
+    let items = expected(a, room, count, flags, list, true);
+    let length = causes::message(said, 0, s, a, room, count, flags);
     let mut n = json_head(out, name, b"refused");
-    n = text::put(out, n, b',');
+    n = text::raw(out, n, b",");
     n = field(out, n, b"number", a.number as usize);
-    json_place(out, n, s, a)
+    n = json_place(out, n, s, a);
+    json_said(out, n, said, length, list, items)
 }
 
 // A refusal as a line of JSON.
 pub fn json(name: &[u8], s: &[u8], a: Answer, room: &mut [u8], out: &mut [u8]) -> usize {
     let mut flags = [0u8; words::COUNT];
     let mut list = io::buffer();
-    let f = find(s, 0, a, room, &mut flags, &mut list, true);
-    let n = json_reported(out, name, s, a);
-    json_found(out, n, s, f, &list)
+    let mut said = io::buffer();
+    json_reported(name, s, a, room, &mut flags, &mut list, &mut said, out)
 }

@@ -1,7 +1,6 @@
-// The line of a place, as far as it is shown.
+// Where a place is: its line and column, and the part of its line that is shown.
 use super::text;
 use super::text::Form;
-use lines::Part;
 
 // The widest part of a line that is shown, and how much of it stands before the place where the line is longer.
 const WINDOW: usize = 100;
@@ -11,6 +10,47 @@ const BEFORE: usize = 40;
 const NEWLINE: u16 = 10;
 
 const RETURN: u16 = 13;
+
+// A line and a column in it, in bytes from 1, and where the line begins.
+#[derive(Drop)]
+pub struct Spot {
+    pub line: usize,
+    pub column: usize,
+    pub from: usize,
+}
+
+// Where a place is. Only a newline ends a line.
+pub fn spot_of(s: &[u8], at: usize) -> Spot {
+    let mut line: usize = 1;
+    let mut from: usize = 0;
+    let mut i: usize = 0;
+    while i < s.len() {
+        if at <= i {
+            return Spot {
+                line,
+                column: i - from + 1,
+                from,
+            };
+        }
+        i += 1;
+        if chars::byte_at(s, i - 1) == NEWLINE {
+            line += 1;
+            from = i;
+        }
+    }
+    Spot {
+        line,
+        column: i - from + 1,
+        from,
+    }
+}
+
+// A part of a source, from one place to another.
+#[derive(Drop)]
+struct View {
+    from: usize,
+    to: usize,
+}
 
 fn less(a: usize, b: usize) -> usize {
     if a < b { 0 } else { a - b }
@@ -36,13 +76,13 @@ fn line_end(s: &[u8], from: usize) -> usize {
 }
 
 // What is shown of a line for a place in it: all of it, or a window with the place in it.
-fn window(from: usize, to: usize, start: usize) -> Part {
+fn window(from: usize, to: usize, start: usize) -> View {
     if less(to, from) <= WINDOW {
-        return Part { from, to };
+        return View { from, to };
     }
     let first = least(less(start, BEFORE), less(to, WINDOW));
     let first = most(from, first);
-    Part {
+    View {
         from: first,
         to: least(to, std::num::wrapping_add_usize(first, WINDOW)),
     }
@@ -65,34 +105,19 @@ fn carets(out: &mut [u8], at: usize, s: &[u8], start: usize, end: usize) -> usiz
     text::part(out, at, Form::Caret, s, start, end)
 }
 
-// What is shown of the line that begins at a place and ends at another.
-fn line(out: &mut [u8], at: usize, s: &[u8], from: usize, to: usize, w: Part) -> usize {
+// The line of a place, and carets under the place as far as its line is shown.
+pub fn shown(out: &mut [u8], at: usize, s: &[u8], start: usize, end: usize) -> usize {
+    let spot = spot_of(s, start);
+    let from = spot.from;
+    let to = line_end(s, from);
+    let w = window(from, to, start);
     let mut n = text::raw(out, at, b"  ");
     n = cut(out, n, from < w.from, b'.');
     n = text::part(out, n, Form::Shown, s, w.from, w.to);
     n = cut(out, n, w.to < to, b'.');
+    n = text::raw(out, n, b"\n  ");
+    n = cut(out, n, from < w.from, b' ');
+    n = text::part(out, n, Form::Under, s, w.from, start);
+    n = carets(out, n, s, start, least(end, w.to));
     text::put(out, n, b'\n')
-}
-
-// What stands under it: blanks, and carets under the place.
-fn under(out: &mut [u8], at: usize, s: &[u8], cuts: bool, w: Part, place: Part) -> usize {
-    let mut n = text::raw(out, at, b"  ");
-    n = cut(out, n, cuts, b' ');
-    n = text::part(out, n, Form::Under, s, w.from, place.from);
-    n = carets(out, n, s, place.from, least(place.to, w.to));
-    text::put(out, n, b'\n')
-}
-
-// The line of a place, and carets under the place as far as its line is shown.
-pub fn shown(out: &mut [u8], at: usize, s: &[u8], start: usize, end: usize) -> usize {
-    let spot = lines::spot_of(s, start);
-    let from = spot.from;
-    let to = line_end(s, from);
-    let w = window(from, to, start);
-    let n = line(out, at, s, from, to, w);
-    let place = Part {
-        from: start,
-        to: end,
-    };
-    under(out, n, s, from < w.from, w, place)
 }

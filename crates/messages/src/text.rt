@@ -110,22 +110,15 @@ fn unless_tab(b: u8, other: u8) -> u8 {
     if b == TAB { TAB } else { other }
 }
 
-// The one byte that stands for another, in a form that is no JSON.
-fn seen(form: Form, b: u8) -> u8 {
-    match form {
-        Form::Shown => shown(b),
-        Form::Named => named(b),
-        Form::Under => unless_tab(b, BLANK),
-        Form::Caret => unless_tab(b, b'^'),
-        _ => b,
-    }
-}
-
 fn one(out: &mut [u8], at: usize, form: Form, b: u8) -> usize {
     match form {
+        Form::Raw => put(out, at, b),
+        Form::Shown => put(out, at, shown(b)),
+        Form::Named => put(out, at, named(b)),
+        Form::Under => put(out, at, unless_tab(b, BLANK)),
+        Form::Caret => put(out, at, unless_tab(b, b'^')),
         Form::Json => escaped(out, at, b),
         Form::JsonAscii => ascii(out, at, b),
-        _ => put(out, at, seen(form, b)),
     }
 }
 

@@ -2,7 +2,6 @@
 use super::text;
 use super::text::Form;
 use chars::refusal;
-use lines::Part;
 use reader::entries;
 
 // How many words the list has.
@@ -34,9 +33,6 @@ const TEST: usize = 45;
 const ASSIGNS: usize = 46;
 
 const OTHERS: usize = 52;
-
-// How many kinds there are.
-const KINDS: usize = 10;
 
 const BLANK: u16 = 32;
 
@@ -189,53 +185,51 @@ fn name_all(flags: &mut [u8], from: usize, to: usize) {
     }
 }
 
-// The words of each kind: of those that hold one another the largest first; those from the fourth on where no expression could stand.
-fn run_of(k: usize) -> Part {
-    match k {
-        0 => run(MINUS, CONST),
-        1 => run(MINUS, LET),
-        2 => run(MINUS, RETURNS),
-        3 => run(LITERALS, FOUR),
-        4 => run(TYPES, RETURNS),
-        5 => run(NAMES, RETURNS),
-        6 => run(NAMES, ITEMS),
-        7 => run(IMPORT, TEST),
-        8 => run(0, LITERALS),
-        _ => run(ASSIGNS, OTHERS),
-    }
-}
-
-fn run(from: usize, to: usize) -> Part {
-    Part { from, to }
-}
-
 // A kind as an item, where the reader goes past all its words.
 fn kind(
     list: &mut [u8],
     items: Items,
     json: bool,
     flags: &mut [u8],
-    k: usize,
-    names: &[u8],
+    from: usize,
+    to: usize,
+    name: &[u8],
 ) -> Items {
-    let words = run_of(k);
-    if whole(flags, words.from, words.to) {
-        name_all(flags, words.from, words.to);
-        let name = lines::line_of(names, k);
-        return item(list, items, json, false, names, name.from, name.to);
+    if whole(flags, from, to) {
+        name_all(flags, from, to);
+        return item(list, items, json, false, name, 0, name.len());
     }
     items
 }
 
-// The kinds, of which each has its name on a line.
-fn kinds(list: &mut [u8], json: bool, flags: &mut [u8], names: &[u8]) -> Items {
+// The kinds of which each holds the next.
+fn phrases(list: &mut [u8], json: bool, flags: &mut [u8]) -> Items {
     let mut items = Items { end: 0, count: 0 };
-    let mut k: usize = 0;
-    while k < KINDS {
-        items = kind(list, items, json, flags, k, names);
-        k += 1;
-    }
-    items
+    items = kind(list, items, json, flags, MINUS, CONST, b"a statement");
+    items = kind(list, items, json, flags, MINUS, LET, b"an expression");
+    items = kind(list, items, json, flags, MINUS, RETURNS, b"an operand");
+    kind(list, items, json, flags, LITERALS, FOUR, b"a literal")
+}
+
+// Likewise, where no expression could stand.
+fn types(list: &mut [u8], first: Items, json: bool, flags: &mut [u8]) -> Items {
+    let mut items = kind(list, first, json, flags, TYPES, RETURNS, b"a type");
+    items = kind(list, items, json, flags, NAMES, RETURNS, b"a path");
+    kind(list, items, json, flags, NAMES, ITEMS, b"a name")
+}
+
+fn signs(list: &mut [u8], first: Items, json: bool, flags: &mut [u8]) -> Items {
+    let mut items = kind(list, first, json, flags, IMPORT, TEST, b"a declaration");
+    items = kind(list, items, json, flags, 0, LITERALS, b"an operator");
+    kind(
+        list,
+        items,
+        json,
+        flags,
+        ASSIGNS,
+        OTHERS,
+        b"an assignment sign",
+    )
 }
 
 // The words that no kind named.
@@ -283,17 +277,8 @@ pub fn expected(
     let words =
         b"== != < <= > >= && || + * / % - 1 1.5 0x1 AS1 1.2.3.4 ::1 true \"\" 'a' f\"\" if while for match ( { ! x _ pkg dep super std return accept reject let import const fn filter filtermap test = += -= *= /= %= } ) [ ] : ; , . ? => -> in else record enum ";
     try_all(room, count, flags, words);
-    let names = b"a statement
-an expression
-an operand
-a literal
-a type
-a path
-a name
-a declaration
-an operator
-an assignment sign
-";
-    let items = kinds(list, json, flags, names);
+    let mut items = phrases(list, json, flags);
+    items = types(list, items, json, flags);
+    items = signs(list, items, json, flags);
     others(list, items, json, flags, words)
 }

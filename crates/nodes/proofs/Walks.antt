@@ -19,7 +19,7 @@ use Rattle.spans.specs.Nested.{Inside, AllInside, nothing, also, Nested, none, m
 use Rattle.spans.proofs.Order.{nested_trees, all_under}
 use Rattle.spans.proofs.Places.{source_nested}
 use Rattle.nodes.specs.declared.Node.{Node}
-use Rattle.nodes.specs.Nodes.{columns, number_at, node_at, holds, is_leaf, wrong_size}
+use Rattle.nodes.specs.Nodes.{START, END, CHILDREN, SIZE, number_at, node_at, holds, is_leaf, wrong_size}
 use Rattle.nodes.specs.Search.{found, Search, leaf, before, past, Permitted, walk, walked}
 use Rattle.nodes.specs.Search as search
 use Rattle.nodes.specs.Reader.{finished, SearchWalks}
@@ -48,7 +48,7 @@ unfolding node_at
 row_there xs r ys =
     let t : List ℕ = flat (r ∷ ys) in
     ap (λ (l : List ℕ). node_at l (length xs)) (flat_append xs (r ∷ ys))
-    ∙ cc (number_there xs t columns.START, number_there xs t columns.END, number_there xs t columns.CHILDREN, number_there xs t columns.SIZE)
+    ∙ cc (number_there xs t START, number_there xs t END, number_there xs t CHILDREN, number_there xs t SIZE)
 
 no_kids : (kids : List Row) → length kids ≡ 0 → total kids ≡ 0
 no_kids [] e = refl

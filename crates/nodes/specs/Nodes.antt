@@ -4,14 +4,23 @@ use Rattle.rows.specs.Rows.{width}
 use Rattle.nodes.specs.declared.Node.{Node}
 
 -- "A row is six u64 numbers: kind, start, end, children, value, detail." C-14: "a seventh number to each row".
-abbrev pub columns : record { START : ℕ; END : ℕ; CHILDREN : ℕ; SIZE : ℕ }
-columns = record { START = 1; END = 2; CHILDREN = 3; SIZE = 6 }
+abbrev pub START : ℕ
+START = 1
+
+abbrev pub END : ℕ
+END = 2
+
+abbrev pub CHILDREN : ℕ
+CHILDREN = 3
+
+abbrev pub SIZE : ℕ
+SIZE = 6
 
 abbrev pub number_at : List ℕ → ℕ → ℕ → ℕ
 number_at table i k = get_or table (i * width + k) 0
 
 unfoldable pub node_at : List ℕ → ℕ → Node
-node_at table i = record { start = number_at table i columns.START; end = number_at table i columns.END; children = number_at table i columns.CHILDREN; size = number_at table i columns.SIZE }
+node_at table i = record { start = number_at table i START; end = number_at table i END; children = number_at table i CHILDREN; size = number_at table i SIZE }
 
 -- "a span that holds that byte"; "On a span's end the byte is outside."
 abbrev pub holds : ℕ → Node → Bool

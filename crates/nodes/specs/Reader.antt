@@ -9,7 +9,7 @@ use Rattle.nodes.specs.Search.{Permitted, walked}
 abbrev pub finished : Answer → List ℕ → List ℕ
 finished a t = take (a.count * width) t
 
--- For every table that (a) or (b) hand back for a source, of any size, and every position. `tree`: (a), else (b); `tests`:
--- whether `test` is a declaration.
+-- For every table that (a) or (b) hand back for a source, of any size, and every position. `tree`: (a), else (b); `tests`: whether
+-- `test` is a declaration.
 pub record SearchWalks (tests tree : Bool) (s : List ℕ) (size : ℕ) : Type 0 where
   pub equal : {a b : Answer} {t : List ℕ} → reader.Permitted tests tree s size a t → a.number ≡ 0 → (position : ℕ) → Permitted (finished a t) position b → b ≡ walked (finished a t) position

@@ -11,11 +11,31 @@ use Rattle.numbers.specs.Digits.{number_of, plain}
 
 -- the suffixes in their order
 abbrev pub suffixes : List (List ℕ)
-suffixes = bytes "i8" ∷ bytes "i16" ∷ bytes "i32" ∷ bytes "i64" ∷ bytes "u8" ∷ bytes "u16" ∷ bytes "u32" ∷ bytes "u64" ∷ bytes "f32" ∷ bytes "f64" ∷ []
+suffixes =
+    bytes "i8"
+    ∷ bytes "i16"
+    ∷ bytes "i32"
+    ∷ bytes "i64"
+    ∷ bytes "u8"
+    ∷ bytes "u16"
+    ∷ bytes "u32"
+    ∷ bytes "u64"
+    ∷ bytes "f32"
+    ∷ bytes "f64"
+    ∷ []
 
--- "Test the range of the suffix, and let `u64` reach 18446744073709551615" (document 02): the greatest of `i8` to `u64`, in order
+-- "Test the range of the suffix, and let `u64` reach 18446744073709551615" (document 02): the greatest value of `i8` to `u64`, in the same order
 abbrev pub greatest : List ℕ
-greatest = 127 ∷ 32767 ∷ 2147483647 ∷ 9223372036854775807 ∷ 255 ∷ 65535 ∷ 4294967295 ∷ 18446744073709551615 ∷ []
+greatest =
+    127
+    ∷ 32767
+    ∷ 2147483647
+    ∷ 9223372036854775807
+    ∷ 255
+    ∷ 65535
+    ∷ 4294967295
+    ∷ 18446744073709551615
+    ∷ []
 
 -- "Without a suffix the old ceiling stays": "at most 9223372036854775807", and for a hex number "at most 0x7fffffffffffffff"
 abbrev pub unsuffixed : ℕ

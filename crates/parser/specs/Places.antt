@@ -1,12 +1,12 @@
 -- Where a reader stands, and what it answers there.
 use Rattle.std.specs.Prelude.{cond, List, ℕ, ◌+◌, ◌-◌, eqb, ltb, length}
 use Rattle.std.proofs.Math.Seq.{slice}
-use Rattle.rows.specs.Kinds.{kinds}
+use Rattle.rows.specs.Kinds as kinds
 use Rattle.tokens.specs.declared.Refusal.{Refusal}
 use Rattle.tokens.specs.declared.Step.{Step}
 use Rattle.tokens.specs.declared.Step.TheVariants.{Taken, Refused}
 use Rattle.tokens.specs.Tokens.{step_at}
-use Rattle.grammar.specs.Words.{words}
+use Rattle.grammar.specs.Words.{the_end, f_quote, text_then_hole, last_text, no_token}
 use Rattle.rows.specs.declared.Row.{Row}
 use Rattle.rows.specs.Rows.{put_row}
 use Rattle.strings.specs.declared.Size.{Size}
@@ -18,7 +18,6 @@ use Rattle.parser.specs.declared.Node.{Node}
 use Rattle.parser.specs.declared.Read.{Read}
 use Rattle.parser.specs.declared.Read.TheVariants.{Done}
 use Rattle.parser.specs.declared.Read.TheVariants as read
-open words use {the_end, f-quote, text-then-hole, last-text, no_token}
 
 -- one more, of what never comes near so many: 300,000 rows
 abbrev pub up_to : ℕ → ℕ → ℕ
@@ -29,7 +28,7 @@ bumped n = up_to 300000 n
 
 -- The word of a step: a token's; `f"`, the lexer's refusal 5, is a token (C-11); the end of the source; what is no token.
 unfoldable pub refused_word : ℕ → ℕ
-refused_word n = cond (eqb n 11) the_end (cond (eqb n 5) f-quote no_token)
+refused_word n = cond (eqb n 11) the_end (cond (eqb n 5) f_quote no_token)
 
 unfoldable pub step_word : Step → ℕ
 step_word (Taken w a next) = w
@@ -151,8 +150,8 @@ piece_table t n a e (Size.Is c) = cond (eqb c 0) t (put_row t n (part_row a e c)
 piece_table t n a e Size.None = t
 
 unfoldable pub part_read : List ℕ → ℕ → ℕ → Part → Read
-part_read s n a (Before e) = piece_read s n a text-then-hole e e (text_of (slice a e s))
-part_read s n a (Ends e) = piece_read s n a last-text e (e + 1) (text_of (slice a e s))
+part_read s n a (Before e) = piece_read s n a text_then_hole e e (text_of (slice a e s))
+part_read s n a (Ends e) = piece_read s n a last_text e (e + 1) (text_of (slice a e s))
 part_read s n a None = read.Refused (refusal_at 11 (length s) (length s))
 
 unfoldable pub part_table : List ℕ → List ℕ → ℕ → ℕ → Part → List ℕ

@@ -8,13 +8,12 @@ use lib.Dec.{T, eqb, eqb→eq, leb, ltb, le→leb, leb→le}
 use native.Mathlib.Omega.{arith}
 use borrow.Author.Tests.{ne_eqb}
 use Rattle.grammar.proofs.Bools.{T→eq, F→eq}
-use Rattle.grammar.specs.Words.{four_words, words}
+use Rattle.grammar.specs.Words.{four_words, open_brace}
 use Rattle.grammar.specs.Grammar.{one_of}
 use Rattle.canon.specs.Trees.{Forest}
 use Rattle.canon.specs.Layout as canon
 use Rattle.places.specs.declared.Place.{Place}
 use Rattle.places.specs.Meant.{unless_of, meant, mark}
-open words use {open-brace}
 
 pub or_end : (a : Bool) → a ≡ (a || false)
 or_end true = refl
@@ -63,7 +62,7 @@ false_true : false ≡ true → ⊥
 false_true h = let z : ◌≡◌ {A = ℕ} 0 1 = ap (λ (b : Bool). cond b 1 0) h in omega arith
 
 -- where one of the first four holds, the last doesn't
-braced : (a b c d e : Bool) → ((a || (b || (c || d))) && e) ≡ false → e ≡ one_of (begun a b c d e) (open-brace ∷ [])
+braced : (a b c d e : Bool) → ((a || (b || (c || d))) && e) ≡ false → e ≡ one_of (begun a b c d e) (open_brace ∷ [])
 unfolding begun
 braced true b c d true h = absurd (false_true (sym h))
 braced true b c d false h = refl

@@ -1,10 +1,9 @@
 -- The place of a row's next child, by its phase (crates/layouts: how many children are behind, or what the last one was). Not to be believed: `phased` (layouts/proofs/)
 -- ties it to `layout` (canon/specs/Layout.antt).
 use Rattle.std.specs.Prelude.{[], ◌∷◌, Bool, true, cond, ℕ, ◌+◌, eqb}
-use Rattle.rows.specs.Kinds.{kinds}
-use Rattle.grammar.specs.Words.{words}
+use Rattle.rows.specs.Kinds as kinds
+use Rattle.grammar.specs.Words.{open_brace}
 use Rattle.canon.specs.Layout as canon
-open words use {open-brace}
 
 abbrev pub at_phase : ℕ → ℕ → canon.Place → canon.Place
 at_phase n p c = cond (eqb p n) c canon.whole
@@ -13,7 +12,7 @@ abbrev pub operands_at : ℕ → ℕ → canon.Place → canon.Place
 operands_at d p c = cond (eqb p 0) (canon.left (canon.left_level d) c) (cond (eqb p 1) (canon.right (canon.binary_level d + 1) c) canon.whole)
 
 abbrev pub body_at : ℕ → canon.Place
-body_at child = cond (eqb child kinds.BLOCK) canon.whole (canon.asks 0 true (open-brace ∷ []))
+body_at child = cond (eqb child kinds.BLOCK) canon.whole (canon.asks 0 true (open_brace ∷ []))
 
 abbrev pub in_arm : ℕ → ℕ → ℕ → canon.Place
 in_arm v p child = at_phase (cond (eqb v 0) 1 2) p (body_at child)

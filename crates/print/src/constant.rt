@@ -1,5 +1,5 @@
 // Constants as lines of text: the answer to one, and all of a source.
-use super::{head, number, say};
+use super::{head, number};
 use chars::{Answer, refusal};
 use constants::Constant;
 use libc::STDOUT_FILENO;
@@ -14,7 +14,7 @@ fn whole(ty: u64, a: u64) {
         return;
     };
     if wholes::negative(t, a) {
-        say(b"-");
+        io::write_all(STDOUT_FILENO, b"-");
     }
     io::print_decimal(STDOUT_FILENO, wholes::magnitude(t, a));
 }
@@ -24,24 +24,24 @@ fn value_line(ty: u64, v: Value) {
     let bits = machine::bits_of(ty, v);
     match v {
         Value::Whole(a) => {
-            say(b"accepted integer ");
+            io::write_all(STDOUT_FILENO, b"accepted integer ");
             whole(ty, a);
         }
         Value::Float(_) => {
-            say(b"accepted float ");
+            io::write_all(STDOUT_FILENO, b"accepted float ");
             float_bits(bits);
         }
         Value::Truth(_) => {
-            say(b"accepted bool ");
+            io::write_all(STDOUT_FILENO, b"accepted bool ");
             io::print_decimal(STDOUT_FILENO, bits);
         }
     }
-    say(b"\n");
+    io::write_all(STDOUT_FILENO, b"\n");
 }
 
 fn float_bits(bits: u64) {
     if bits == machine::NAN {
-        say(b"nan");
+        io::write_all(STDOUT_FILENO, b"nan");
     } else {
         io::print_decimal(STDOUT_FILENO, bits);
     }
@@ -100,10 +100,10 @@ pub fn rows_before(row: usize, many: u64) -> usize {
 // One byte, and a blank for a byte that isn't shown.
 fn byte(b: u8) {
     if b < 33 {
-        say(b" ");
+        io::write_all(STDOUT_FILENO, b" ");
     } else {
         let one = [b; 1];
-        say(&one);
+        io::write_all(STDOUT_FILENO, &one);
     }
 }
 
@@ -125,24 +125,58 @@ fn name_and_type(s: &[u8], table: &[u64], row: usize) {
     let ty = rows_before(expr, cell(table, expr, SIZE));
     let name = rows_before(ty, cell(table, ty, SIZE));
     row_text(s, table, name);
-    say(b" ");
+    io::write_all(STDOUT_FILENO, b" ");
     row_text(s, table, ty);
-    say(b" ");
+    io::write_all(STDOUT_FILENO, b" ");
 }
 
 // No source has as many bytes.
 const MOST_BYTES: usize = 65536;
 
+// A line and a column in it, from 1.
+#[derive(Drop)]
+struct Spot {
+    line: u64,
+    column: u64,
+}
+
+// Where a place is.
+fn spot_of(s: &[u8], at: usize) -> Spot {
+    let mut line: u64 = 1;
+    let mut column: u64 = 1;
+    let mut i = 0;
+    while i < MOST_BYTES {
+        if at <= i {
+            return Spot { line, column };
+        }
+        i += 1;
+        if newline(s, i - 1) {
+            line += 1;
+            column = 1;
+            continue;
+        }
+        column += 1;
+    }
+    Spot { line, column }
+}
+
+fn newline(s: &[u8], i: usize) -> bool {
+    if i < s.len() {
+        return s[i] == b'\n';
+    }
+    false
+}
+
 // `refused NUMBER at line LINE, column COLUMN`.
 fn refusal_line(s: &[u8], a: Answer) {
-    say(b"refused");
+    io::write_all(STDOUT_FILENO, b"refused");
     number(a.number);
-    let spot = lines::spot_of(s, a.start);
-    say(b" at line");
-    number(spot.line as u64);
-    say(b", column");
-    number(spot.column as u64);
-    say(b"\n");
+    let spot = spot_of(s, a.start);
+    io::write_all(STDOUT_FILENO, b" at line");
+    number(spot.line);
+    io::write_all(STDOUT_FILENO, b", column");
+    number(spot.column);
+    io::write_all(STDOUT_FILENO, b"\n");
 }
 
 // The bits of an f64: its sign's, the exponent's field, and 13 hex digits below.
@@ -157,12 +191,12 @@ const BIAS: u64 = 1023;
 // The power of two of a field, which is one more than it says where the field is 0.
 fn exponent(field: u64) {
     if field == 0 {
-        say(b"p-1022");
+        io::write_all(STDOUT_FILENO, b"p-1022");
         return;
     }
-    say(b"p");
+    io::write_all(STDOUT_FILENO, b"p");
     if field < BIAS {
-        say(b"-");
+        io::write_all(STDOUT_FILENO, b"-");
         io::print_decimal(STDOUT_FILENO, BIAS - field);
     } else {
         io::print_decimal(STDOUT_FILENO, field - BIAS);
@@ -173,17 +207,17 @@ fn exponent(field: u64) {
 fn amount(bits: u64) {
     let field = bits / UNIT;
     if bits == 0 {
-        say(b"0");
+        io::write_all(STDOUT_FILENO, b"0");
         return;
     }
     if INFINITE <= field {
-        say(b"inf");
+        io::write_all(STDOUT_FILENO, b"inf");
         return;
     }
     if field == 0 {
-        say(b"0x0.");
+        io::write_all(STDOUT_FILENO, b"0x0.");
     } else {
-        say(b"0x1.");
+        io::write_all(STDOUT_FILENO, b"0x1.");
     }
     io::print_hex(STDOUT_FILENO, bits % UNIT, 13);
     exponent(field);
@@ -192,11 +226,11 @@ fn amount(bits: u64) {
 // A float exactly: hex digits and a power of two, as C's strtod reads them.
 fn float_text(bits: u64) {
     if bits == machine::NAN {
-        say(b"nan");
+        io::write_all(STDOUT_FILENO, b"nan");
         return;
     }
     if SIGN <= bits {
-        say(b"-");
+        io::write_all(STDOUT_FILENO, b"-");
     }
     amount(bits % SIGN);
 }
@@ -208,13 +242,13 @@ fn value_text(ty: u64, v: Value) {
         Value::Float(_) => float_text(machine::bits_of(ty, v)),
         Value::Truth(b) => {
             if b {
-                say(b"true");
+                io::write_all(STDOUT_FILENO, b"true");
             } else {
-                say(b"false");
+                io::write_all(STDOUT_FILENO, b"false");
             }
         }
     }
-    say(b"\n");
+    io::write_all(STDOUT_FILENO, b"\n");
 }
 
 // How a constant was answered.

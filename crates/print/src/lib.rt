@@ -12,37 +12,29 @@ use tokens::{Cursor, Step};
 pub mod constant;
 mod names;
 
-fn say(t: &[u8]) {
-    io::write_all(STDOUT_FILENO, t);
-}
-
 fn number(n: u64) {
-    say(b" ");
+    io::write_all(STDOUT_FILENO, b" ");
     io::print_decimal(STDOUT_FILENO, n);
 }
 
 fn refused(n: u64, start: usize, end: usize) {
-    say(b"refused");
+    io::write_all(STDOUT_FILENO, b"refused");
     number(n);
     number(start as u64);
     number(end as u64);
 }
 
 // `accepted COUNT`, or `refused NUMBER START END`, and for 10 the count needed.
-fn head_of(n: u64, start: usize, end: usize, count: usize) {
-    if n == refusal::NONE {
-        say(b"accepted");
-    } else {
-        refused(n, start, end);
-    }
-    if (n == refusal::NONE) | (n == refusal::NO_ROOM) {
-        number(count as u64);
-    }
-    say(b"\n");
-}
-
 fn head(a: Answer) {
-    head_of(a.number, a.start, a.end, a.count);
+    if a.number == refusal::NONE {
+        io::write_all(STDOUT_FILENO, b"accepted");
+    } else {
+        refused(a.number, a.start, a.end);
+    }
+    if (a.number == refusal::NONE) | (a.number == refusal::NO_ROOM) {
+        number(a.count as u64);
+    }
+    io::write_all(STDOUT_FILENO, b"\n");
 }
 
 // A token: its code, start and end; or the name of its code, and its text behind them.
@@ -55,10 +47,10 @@ fn token_line(s: &[u8], code: u64, start: usize, end: usize, named: bool) {
     number(start as u64);
     number(end as u64);
     if named {
-        say(b" ");
+        io::write_all(STDOUT_FILENO, b" ");
         text_line(s, start, end);
     } else {
-        say(b"\n");
+        io::write_all(STDOUT_FILENO, b"\n");
     }
 }
 
@@ -95,7 +87,7 @@ fn hex_line(bytes: &[u8]) {
         io::print_hex(STDOUT_FILENO, wide(bytes[i]), 2);
         i += 1;
     }
-    say(b"\n");
+    io::write_all(STDOUT_FILENO, b"\n");
 }
 
 fn wide(b: u8) -> u64 {
@@ -143,7 +135,7 @@ fn row_line(table: &[u64], at: usize)
     number(table[at + 4]);
     number(table[at + 5]);
     number(table[at + 6]);
-    say(b"\n");
+    io::write_all(STDOUT_FILENO, b"\n");
 }
 
 // The rows from the front on, a line each, as far as the table reaches.
@@ -183,10 +175,10 @@ pub fn answer_expression(s: &[u8], table: &mut [u64], named: bool) -> bool {
 }
 
 fn accepted(first: u64, second: u64) {
-    say(b"accepted");
+    io::write_all(STDOUT_FILENO, b"accepted");
     number(first);
     number(second);
-    say(b"\n");
+    io::write_all(STDOUT_FILENO, b"\n");
 }
 
 // The number of a float literal: `accepted WIDTH BITS`, or the refusal.
@@ -196,21 +188,21 @@ pub fn answer_float(t: &[u8]) {
         accepted(a.width, a.bits);
     } else {
         refused(a.number, a.start, a.end);
-        say(b"\n");
+        io::write_all(STDOUT_FILENO, b"\n");
     }
 }
 
 // Where a leaf was found: `accepted INDEX START END`, or the refusal.
 fn node_line(a: Answer) {
     if a.number == refusal::NONE {
-        say(b"accepted");
+        io::write_all(STDOUT_FILENO, b"accepted");
         number(a.count as u64);
         number(a.start as u64);
         number(a.end as u64);
     } else {
         refused(a.number, a.start, a.end);
     }
-    say(b"\n");
+    io::write_all(STDOUT_FILENO, b"\n");
 }
 
 // C-15: the last leaf of a table that holds a byte.
@@ -219,18 +211,14 @@ pub fn answer_node(table: &[u64], position: u64) {
     node_line(a);
 }
 
-// The bytes between two places.
-fn text(s: &[u8], start: usize, end: usize) {
+// The bytes between two places as a line.
+fn text_line(s: &[u8], start: usize, end: usize) {
     if start <= end {
         if end <= s.len() {
-            say(&s[start..end]);
+            io::write_all(STDOUT_FILENO, &s[start..end]);
         }
     }
-}
-
-fn text_line(s: &[u8], start: usize, end: usize) {
-    text(s, start, end);
-    say(b"\n");
+    io::write_all(STDOUT_FILENO, b"\n");
 }
 
 // The last leaf of a source's rows that holds a byte, its row and its text.
@@ -269,7 +257,12 @@ pub fn answer_check(file: &[u8], table: &mut [u64]) -> bool {
         accepted(a.count as u64, a.tests as u64);
         return true;
     }
-    head_of(a.number, a.start, a.end, a.count);
+    head(Answer {
+        number: a.number,
+        start: a.start,
+        end: a.end,
+        count: a.count,
+    });
     false
 }
 
@@ -310,13 +303,13 @@ pub fn answer_file(s: &[u8], table: &mut [u64], file: &mut [u8]) -> bool {
 fn range_line(ranges: &[u64], at: usize)
     requires { at + range_width ≤ length ranges.now }
 {
-    say(b"range");
+    io::write_all(STDOUT_FILENO, b"range");
     number(ranges[at]);
     number(ranges[at + 1]);
     number(ranges[at + 2]);
     number(ranges[at + 3]);
     number(ranges[at + 4]);
-    say(b"\n");
+    io::write_all(STDOUT_FILENO, b"\n");
 }
 
 // The ranges from the front on, a line each, as far as the table reaches.
@@ -339,7 +332,12 @@ pub fn answer_salvage(s: &mut [u8], table: &mut [u64], ranges: &mut [u64]) {
         row_lines(table, a.count);
         return;
     }
-    head_of(a.number, a.start, a.end, a.count);
+    head(Answer {
+        number: a.number,
+        start: a.start,
+        end: a.end,
+        count: a.count,
+    });
 }
 
 // The first bytes of a buffer, if there are some.
@@ -358,7 +356,12 @@ fn answer_printed(a: Printed, text: &[u8]) {
         first_bytes(text, a.count);
         return;
     }
-    head_of(a.number, a.start, a.end, a.count);
+    head(Answer {
+        number: a.number,
+        start: a.start,
+        end: a.end,
+        count: a.count,
+    });
 }
 
 fn printed(s: &[u8], table: &mut [u64], plan: &mut [u64], text: &mut [u8]) {

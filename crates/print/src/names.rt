@@ -1,6 +1,7 @@
 // Rows and tokens by the names of their kinds; rows as a tree, each under its parent.
 use super::constant::{cell, row_text, rows_before};
-use super::{number, say, text};
+use super::number;
+use libc::STDOUT_FILENO;
 use rows::kind;
 
 // The columns of a row that are used: where its span begins and ends, its detail and how many rows its subtree has.
@@ -18,113 +19,112 @@ const DEPTH: usize = 3;
 
 const LINK: usize = 4;
 
-// Says the line of a list with a number.
-fn say_line(list: &[u8], number: u64) {
-    let line = lines::line_of(list, number as usize);
-    text(list, line.from, line.to);
+fn say(t: &[u8]) {
+    io::write_all(STDOUT_FILENO, t);
 }
 
-// The kind of a row: a line for each from `rows::kind::NONE` on, of which 9, 18 and 19 are none.
+// Names, types and literals.
+fn short_name(k: u64) {
+    match k {
+        kind::NAME => say(b"name"),
+        kind::PATH => say(b"path"),
+        kind::NEVER => say(b"never type"),
+        kind::UNIT => say(b"unit type"),
+        kind::OPTION => say(b"optional type"),
+        kind::PATH_TYPE => say(b"path type"),
+        kind::RECORD_TYPE => say(b"record type"),
+        kind::TYPED_NAME => say(b"name with type"),
+        kind::INTEGER => say(b"integer"),
+        kind::FLOAT => say(b"float"),
+        kind::BOOL => say(b"bool"),
+        kind::ASN => say(b"AS number"),
+        kind::IPV4 => say(b"IPv4"),
+        kind::IPV6 => say(b"IPv6"),
+        kind::STRING => say(b"string"),
+        kind::CHAR => say(b"char"),
+        _ => say(b"row"),
+    }
+}
+
+fn expression_name(k: u64) {
+    match k {
+        kind::BINARY => say(b"binary"),
+        kind::NOT => say(b"not"),
+        kind::NEGATE => say(b"negate"),
+        kind::CALL => say(b"call"),
+        kind::ACCESS => say(b"access"),
+        kind::QUESTION => say(b"question"),
+        kind::ASSIGN => say(b"assign"),
+        kind::RETURN => say(b"return form"),
+        kind::IF => say(b"if"),
+        kind::WHILE => say(b"while"),
+        kind::FOR => say(b"for"),
+        kind::MATCH => say(b"match"),
+        kind::ARM => say(b"arm"),
+        kind::ANY => say(b"any"),
+        kind::VARIANT => say(b"variant"),
+        kind::BLOCK => say(b"block"),
+        kind::RECORD => say(b"record"),
+        kind::FIELD => say(b"field"),
+        _ => short_name(k),
+    }
+}
+
 fn kind_name(k: u64) {
-    say_line(
-        b"row
-name
-path
-never type
-unit type
-optional type
-path type
-record type
-name with type
-row
-integer
-float
-bool
-AS number
-IPv4
-IPv6
-string
-char
-row
-row
-binary
-not
-negate
-call
-access
-question
-assign
-return form
-if
-while
-for
-match
-arm
-any
-variant
-block
-record
-field
-let
-import
-const
-fn
-test
-tree
-import path
-filter
-f-string
-text
-",
-        k,
-    );
+    match k {
+        kind::LET => say(b"let"),
+        kind::IMPORT => say(b"import"),
+        kind::CONST => say(b"const"),
+        kind::FN => say(b"fn"),
+        kind::TEST => say(b"test"),
+        kind::TREE => say(b"tree"),
+        kind::IMPORT_PATH => say(b"import path"),
+        kind::FILTER => say(b"filter"),
+        kind::F_STRING => say(b"f-string"),
+        kind::TEXT => say(b"text"),
+        _ => expression_name(k),
+    }
 }
 
-// The sign of a binary row, from 1 on.
+// The sign of a binary row.
 fn operator(detail: u64) {
-    say_line(
-        b"
- ||
- &&
- ==
- !=
- <
- <=
- >
- >=
- +
- -
- *
- /
- %
-",
-        detail,
-    );
+    match detail {
+        1 => say(b" ||"),
+        2 => say(b" &&"),
+        3 => say(b" =="),
+        4 => say(b" !="),
+        5 => say(b" <"),
+        6 => say(b" <="),
+        7 => say(b" >"),
+        8 => say(b" >="),
+        9 => say(b" +"),
+        10 => say(b" -"),
+        11 => say(b" *"),
+        12 => say(b" /"),
+        13 => say(b" %"),
+        _ => {}
+    }
 }
 
 fn assignment(detail: u64) {
-    say_line(
-        b" =
- +=
- -=
- *=
- /=
- %=
-",
-        detail,
-    );
+    match detail {
+        0 => say(b" ="),
+        1 => say(b" +="),
+        2 => say(b" -="),
+        3 => say(b" *="),
+        4 => say(b" /="),
+        5 => say(b" %="),
+        _ => {}
+    }
 }
 
-// From 1 on.
 fn return_word(detail: u64) {
-    say_line(
-        b"
- return
- accept
- reject
-",
-        detail,
-    );
+    match detail {
+        1 => say(b" return"),
+        2 => say(b" accept"),
+        3 => say(b" reject"),
+        _ => {}
+    }
 }
 
 // A row's detail is 1 for `filter`, whose name stands there, and 2 for `filtermap`.
@@ -245,24 +245,21 @@ pub fn tree_lines(s: &[u8], table: &mut [u64], count: usize) {
     }
 }
 
-// The code of a token, from 1 on.
+// The code of a token.
 pub fn code_name(code: u64) {
-    say_line(
-        b"
-IPv6
-IPv4
-two signs
-sign
-AS number
-hex
-integer
-float
-string
-char
-keyword
-bool
-name
-",
-        code,
-    );
+    match code {
+        1 => say(b"IPv6"),
+        2 => say(b"IPv4"),
+        3 => say(b"two signs"),
+        4 => say(b"sign"),
+        5 => say(b"AS number"),
+        6 => say(b"hex"),
+        7 => say(b"integer"),
+        8 => say(b"float"),
+        9 => say(b"string"),
+        10 => say(b"char"),
+        11 => say(b"keyword"),
+        12 => say(b"bool"),
+        _ => say(b"name"),
+    }
 }

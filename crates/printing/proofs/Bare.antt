@@ -4,7 +4,7 @@ use mathlib.Core.List.{List, [], ◌∷◌, ◌++◌}
 use mathlib.Core.Bool.{Bool, true, false, cond}
 use Prim.Native.Nat.{ℕ, suc, ◌+◌}
 use lib.Dec.{eqb}
-use Rattle.rows.specs.Kinds.{kinds}
+use Rattle.rows.specs.Kinds as kinds
 use Rattle.grammar.specs.Grammar.{Token, Parts, end, leaf, node, mark, one_of}
 use Rattle.grammar.specs.Table.{rest_kinds, literal_row}
 use Rattle.grammar.specs.Rows.{Row, Item, own, child, Draft, starts, ends, count, children_of, sizes, sign_of, detail_for, literal_of_lem, row_of, add_row, take_note, is_text, text_row, add_token, enter, leave, write, blank, tree_row, rows_from, rows, first_row, phrase_row, is_path}

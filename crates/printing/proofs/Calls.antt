@@ -4,10 +4,10 @@ use mathlib.Core.List.{List, [], ◌∷◌, ◌++◌}
 use mathlib.Core.Bool.{Bool, true, false, not, ◌||◌, ◌&&◌, cond}
 use Prim.Native.Nat.{ℕ, zero, suc, pred, ◌≤◌}
 use lib.Dec.{T, T_not, eqb}
-use Rattle.rows.specs.Kinds.{kinds}
-use Rattle.grammar.specs.Words.{assign_signs, four_words, names, path_items, return_words, words}
+use Rattle.rows.specs.Kinds as kinds
+use Rattle.grammar.specs.Words.{'%=', '*=', '+=', '-=', '/=', ':', 'accept', 'reject', 'return', assign_signs, close_brace, close_paren, comma, four_words, names, open_brace, open_paren, path_items, return_words}
 use Rattle.grammar.specs.Grammar.{In, Token, alternatives, end, here, node, one_of, phrase, same, there}
-use Rattle.grammar.specs.Kinds.{records, phrases}
+use Rattle.grammar.specs.Kinds.{ASSIGNED, BINARY, BRACES, EXPR, EXPRS, EXPRS_MORE, FIELD, FIELDS, FIELDS_MORE, NAME, NAMES, NAMES_MORE, OPERAND, OR_MORE, PATH, POSTFIX, TYPE, TYPED_NAME, TYPED_NAMES, TYPED_NAMES_MORE, TYPES, TYPES_MORE, records}
 use Rattle.grammar.specs.Readings.{ReadingBy, peek, reads_end, reads_phrase, reads_side}
 use Rattle.grammar.specs.Table.{a, one, word, opens, closes, prefix, row, part, rest_kinds}
 use Rattle.grammar.specs.Rows.{is_text, place_in}
@@ -20,8 +20,6 @@ use Rattle.printing.proofs.Lists.{Rest, Rst, Shape, Whole, chain, done, finish, 
 use Rattle.printing.proofs.Placed.{Barred, PathTree, Placed, apart, barred, each_of, more_items, name_head, needs_begins, needs_records, path, row_head, settle}
 use Rattle.printing.proofs.Exprs.{beside_nil, beside_on, free, in_assigned, in_call, in_path, in_path_call, in_return, in_returned, named, names_suit, path_row, path_whole, two}
 use Rattle.printing.proofs.Grown.{path_grown}
-open words use {'%=', '*=', '+=', '-=', '/=', ':', 'accept', 'reject', 'return', close-brace, close-paren, comma, open-brace, open-paren}
-open phrases use {ASSIGNED, BINARY, BRACES, EXPR, EXPRS, EXPRS-MORE, FIELD, FIELDS, FIELDS-MORE, NAME, NAMES, NAMES-MORE, OPERAND, OR-MORE, PATH, POSTFIX, TYPE, TYPED-NAME, TYPED-NAMES, TYPED-NAMES-MORE, TYPES, TYPES-MORE}
 
 -- items, lists, and what follows an item
 pub record ListOf (n m k : ℕ) : Type 0 where
@@ -33,23 +31,23 @@ pub record ListOf (n m k : ℕ) : Type 0 where
   pub in_last : In [] (alternatives l k)
   pub in_more : In (word comma ∷ a m ∷ []) (alternatives l k)
 
-pub typed_names : ListOf TYPED-NAME TYPED-NAMES TYPED-NAMES-MORE
+pub typed_names : ListOf TYPED_NAME TYPED_NAMES TYPED_NAMES_MORE
 unfolding roto
 typed_names = record { item = refl; list = refl; tail = refl; in_none = here; in_some = there here; in_last = here; in_more = there here }
 
-pub type_list : ListOf TYPE TYPES TYPES-MORE
+pub type_list : ListOf TYPE TYPES TYPES_MORE
 unfolding roto
 type_list = record { item = refl; list = refl; tail = refl; in_none = here; in_some = there here; in_last = here; in_more = there here }
 
-pub expr_list : ListOf (EXPR records) EXPRS EXPRS-MORE
+pub expr_list : ListOf (EXPR records) EXPRS EXPRS_MORE
 unfolding roto
 expr_list = record { item = refl; list = refl; tail = refl; in_none = here; in_some = there here; in_last = here; in_more = there here }
 
-pub field_list : ListOf FIELD FIELDS FIELDS-MORE
+pub field_list : ListOf FIELD FIELDS FIELDS_MORE
 unfolding roto
 field_list = record { item = refl; list = refl; tail = refl; in_none = here; in_some = there here; in_last = here; in_more = there here }
 
-pub name_list : ListOf NAME NAMES NAMES-MORE
+pub name_list : ListOf NAME NAMES NAMES_MORE
 unfolding roto
 name_list = record { item = refl; list = refl; tail = refl; in_none = here; in_some = there here; in_last = here; in_more = there here }
 
@@ -116,7 +114,7 @@ module _ (s : List ℕ) where
   says_expr p j a χ t z = p.stands whole tt j χ t z
 
   -- a path on the left of a sign
-  path_binary : {h : Head} {k : Grove} (r : Bool) (j : ℕ) (χ : Choice) (y z : List Token) (g : Grove) → PathTree h k → Rest (OR-MORE r) y z (top h k nil) g → Whole (BINARY r) (say s whole j h k χ y) z g
+  path_binary : {h : Head} {k : Grove} (r : Bool) (j : ℕ) (χ : Choice) (y z : List Token) (g : Grove) → PathTree h k → Rest (OR_MORE r) y z (top h k nil) g → Whole (BINARY r) (say s whole j h k χ y) z g
   unfolding said layout layouts
   path_binary true zero χ y z g (path x m it) v = (path_row s (path x m it)).stands (asks 1 true []) tt 0 χ (tt, names_suit s χ (more_items x m it)) y z g v
   path_binary false zero χ y z g (path x m it) v = (path_row s (path x m it)).stands (asks 1 false []) tt 0 χ (tt, names_suit s χ (more_items x m it)) y z g v
@@ -128,8 +126,8 @@ module _ (s : List ℕ) where
 
   path_begin : {h : Head} {k : Grove} (u : Barred) (j : ℕ) (χ : Choice) (z : List Token) → PathTree h k → T (not (one_of (peek lists l (say s whole j h k χ z)) (barred u)))
   unfolding said layout layouts
-  path_begin u zero χ z (path x m it) = free x.word u (apart path_items (open-brace ∷ four_words) x.word tt m)
-  path_begin u (suc j) χ z (path x m it) = free open-paren u tt
+  path_begin u zero χ z (path x m it) = free x.word u (apart path_items (open_brace ∷ four_words) x.word tt m)
+  path_begin u (suc j) χ z (path x m it) = free open_paren u tt
 
   module _ (h : Head) (k : Grove) (p : Placed s h k) where
     -- a call
@@ -138,8 +136,8 @@ module _ (s : List ℕ) where
     call_row g u = settle s (row_head kinds.CALL 0 0) (top h k g) (record {
       stands = λ c χ e t y z g' v.
           let r = c.records in
-          let on = tok (token_of open-paren) refl tt (λ d. tt) (rest refl (list_all expr_list kinds.CALL (λ i h t χ. any (number χ)) false (after χ) open-paren (top h k nil) open-paren 0 close-paren y u t.2) (tok (token_of close-paren) refl tt (λ d. tt) (put kinds.CALL refl refl refl (rest (more_postfix r) v done)))) in
-          subst (λ (t : List Token). Whole (OPERAND r) (say s (left 7 c) (number χ) h k (under χ) t) z g') (sym (said_list kinds.CALL false open-paren close-paren g (after χ) y)) (p.stands (left 7 c) tt (number χ) (under χ) (t.0, t.1) _ _ _ (record { alt = _; takes = in_call r; goes = on }) (record { alt = _; takes = in_path_call r; goes = on }));
+          let on = tok (token_of open_paren) refl tt (λ d. tt) (rest refl (list_all expr_list kinds.CALL (λ i h t χ. any (number χ)) false (after χ) open_paren (top h k nil) open_paren 0 close_paren y u t.2) (tok (token_of close_paren) refl tt (λ d. tt) (put kinds.CALL refl refl refl (rest (more_postfix r) v done)))) in
+          subst (λ (t : List Token). Whole (OPERAND r) (say s (left 7 c) (number χ) h k (under χ) t) z g') (sym (said_list kinds.CALL false open_paren close_paren g (after χ) y)) (p.stands (left 7 c) tt (number χ) (under χ) (t.0, t.1) _ _ _ (record { alt = _; takes = in_call r; goes = on }) (record { alt = _; takes = in_path_call r; goes = on }));
       begin = λ c u χ e t f z. p.begin (left 7 c) u (number χ) (under χ) (t.0, t.1) f _;
       path = absurd;
       four = absurd;
@@ -229,23 +227,23 @@ module _ (s : List ℕ) where
   unfolding said layout layouts roto
   record_row h k g f u = settle s (row_head kinds.RECORD 0 0) (top h k g) (record {
     stands = λ c χ e t y z g' v. go χ t c.records (not_off c.records (needs_records s c (row_head kinds.RECORD 0 0) (top h k g) e)) y z g' v;
-    begin = λ c u χ e t f z. own_begin open-brace c u (needs_begins s c (row_head kinds.RECORD 0 0) (top h k g) e) f;
+    begin = λ c u χ e t f z. own_begin open_brace c u (needs_begins s c (row_head kinds.RECORD 0 0) (top h k g) e) f;
     path = absurd;
     four = absurd;
     block = absurd;
     expr = tt;
   })
     where
-      go : (χ : Choice) → SuitsList kinds.RECORD true open-brace (top h k g) χ → (r : Bool) → r ≡ true → (y z : List Token) (g' : Grove) → Rest (POSTFIX r) y z (top (row_head kinds.RECORD 0 0) (top h k g) nil) g' → Whole (OPERAND r) (token_of open-brace ∷ listing kinds.RECORD true close-brace (top h k g) χ y) z g'
+      go : (χ : Choice) → SuitsList kinds.RECORD true open_brace (top h k g) χ → (r : Bool) → r ≡ true → (y z : List Token) (g' : Grove) → Rest (POSTFIX r) y z (top (row_head kinds.RECORD 0 0) (top h k g) nil) g' → Whole (OPERAND r) (token_of open_brace ∷ listing kinds.RECORD true close_brace (top h k g) χ y) z g'
       go χ t true e y z g' v = chain {n = BRACES} (there (there (there (there (there (there (there here))))))) refl refl
-          (finish here (tok (token_of open-brace) refl tt (λ d. tt) (rest refl (record { alt = _; takes = here; goes = sub refl (f 0 tt (under χ) (t.0, t.1) _) (rest refl (list_more field_list kinds.RECORD (λ i h t χ. tt) (after χ) (top h k nil) open-brace 0 close-brace y u t.2) (tok (token_of close-brace) refl tt (λ d. tt) (put kinds.RECORD refl refl refl done))) }) done)))
+          (finish here (tok (token_of open_brace) refl tt (λ d. tt) (rest refl (record { alt = _; takes = here; goes = sub refl (f 0 tt (under χ) (t.0, t.1) _) (rest refl (list_more field_list kinds.RECORD (λ i h t χ. tt) (after χ) (top h k nil) open_brace 0 close_brace y u t.2) (tok (token_of close_brace) refl tt (λ d. tt) (put kinds.RECORD refl refl refl done))) }) done)))
           v
       go χ t false e y z g' v = absurd (subst T (sym e) tt)
 
   pub path_record : (h : Head) (k g : Grove) → PathTree h k → Listed FIELD g → Placed s (row_head kinds.RECORD 1 0) (top h k g)
   unfolding said layout layouts roto
   path_record h k g q u = settle s (row_head kinds.RECORD 1 0) (top h k g) (record {
-    stands = λ c χ e t y z g' v. subst (λ (t : List Token). Whole (OPERAND c.records) (body s whole h k (under χ) t) z g') (sym (said_list kinds.RECORD false open-brace close-brace g (after χ) y)) (go χ t.2 c.records (not_off c.records (needs_records s c (row_head kinds.RECORD 1 0) (top h k g) e)) y z g' v);
+    stands = λ c χ e t y z g' v. subst (λ (t : List Token). Whole (OPERAND c.records) (body s whole h k (under χ) t) z g') (sym (said_list kinds.RECORD false open_brace close_brace g (after χ) y)) (go χ t.2 c.records (not_off c.records (needs_records s c (row_head kinds.RECORD 1 0) (top h k g) e)) y z g' v);
     begin = λ c u χ e t f z. path_begin u 0 (under χ) _ q;
     path = absurd;
     four = absurd;
@@ -253,7 +251,7 @@ module _ (s : List ℕ) where
     expr = tt;
   })
     where
-      go : (χ : Choice) → SuitsList kinds.RECORD false open-brace g (after χ) → (r : Bool) → r ≡ true → (y z : List Token) (g' : Grove) → Rest (POSTFIX r) y z (top (row_head kinds.RECORD 1 0) (top h k g) nil) g' → Whole (OPERAND r) (body s whole h k (under χ) (token_of open-brace ∷ listing kinds.RECORD false close-brace g (after χ) y)) z g'
+      go : (χ : Choice) → SuitsList kinds.RECORD false open_brace g (after χ) → (r : Bool) → r ≡ true → (y z : List Token) (g' : Grove) → Rest (POSTFIX r) y z (top (row_head kinds.RECORD 1 0) (top h k g) nil) g' → Whole (OPERAND r) (body s whole h k (under χ) (token_of open_brace ∷ listing kinds.RECORD false close_brace g (after χ) y)) z g'
       go χ t true e y z g' v = chain {n = PATH} (in_path true) refl refl (path_said (under χ) _ q)
-          (record { alt = _; takes = there (there (there here)); goes = tok (token_of open-brace) refl tt (λ d. tt) (rest refl (list_all field_list kinds.RECORD (λ i h t χ. tt) false (after χ) open-brace (top h k nil) open-brace 0 close-brace y u t) (tok (token_of close-brace) refl tt (λ d. tt) (told (put kinds.RECORD refl refl refl (rest refl v done))))) })
+          (record { alt = _; takes = there (there (there here)); goes = tok (token_of open_brace) refl tt (λ d. tt) (rest refl (list_all field_list kinds.RECORD (λ i h t χ. tt) false (after χ) open_brace (top h k nil) open_brace 0 close_brace y u t) (tok (token_of close_brace) refl tt (λ d. tt) (told (put kinds.RECORD refl refl refl (rest refl v done))))) })
       go χ t false e y z g' v = absurd (subst T (sym e) tt)

@@ -4,10 +4,10 @@ use mathlib.Core.List.{List, [], ◌∷◌, ◌++◌}
 use mathlib.Core.Bool.{Bool, true, false, not, ◌||◌, ◌&&◌, cond}
 use Prim.Native.Nat.{ℕ, zero, suc, pred, ◌≤◌}
 use lib.Dec.{T, eqb}
-use Rattle.rows.specs.Kinds.{kinds}
-use Rattle.grammar.specs.Words.{literals, names, path_items, words}
+use Rattle.rows.specs.Kinds as kinds
+use Rattle.grammar.specs.Words.{literals, name, names, path_items}
 use Rattle.grammar.specs.Grammar.{Ask, Parts, Token, closes_bracket, end, has_value, is_else_if, is_head, is_prefix, one_of, opens_bracket, plain}
-use Rattle.grammar.specs.Kinds.{records, phrases}
+use Rattle.grammar.specs.Kinds.{AFTER_EXPR, AFTER_FOUR, AFTER_PATH, AND, AND_MORE, ARM, ARM_BODY, ARM_COMMA, ARM_NEXT, ARMS, ASSIGNED, BINARY, BLOCK, BRACES, BRACES_INSIDE, COMPARE, COMPARE_MORE, DECLARATION, DECLARATIONS, ELSE, ELSE_IF, ELSE_PART, EXPR, EXPRS, EXPRS_MORE, F_STRING, FIELD, FIELD_NAME, FIELDS, FIELDS_MORE, FOUR, GUARD, IMPORT, IMPORTED, IMPORTPATH, IMPORTPATH_DOT, IMPORTPATH_REST, IMPORTPATHS, IMPORTPATHS_MORE, LET, LET_TYPE, LITERAL, NAME, NAMES, NAMES_MORE, OPERAND, OR_MORE, PARAMS, PARENS, PATH, PATH_ITEM, PATH_REST, PATTERN, POSTFIX, PRODUCT, PRODUCT_MORE, RESULT, RETURNED, STATEMENT, STATEMENTS, SUM, SUM_MORE, TREE, TYPE, TYPE_BASE, TYPE_BRACKETS, TYPE_MARKS, TYPED_NAME, TYPED_NAMES, TYPED_NAMES_MORE, TYPES, TYPES_MORE, VARIANT, VARIANT_NAMES, records}
 use Rattle.grammar.specs.Limits.{Counts}
 use Rattle.grammar.specs.Table.{rest_kinds, literal_row}
 use Rattle.grammar.specs.Rows.{is_text, place_in}
@@ -23,8 +23,6 @@ use Rattle.printing.proofs.Blocks.{Stmts}
 use Rattle.printing.proofs.Fours.{Arm, Arms, Else}
 use Rattle.printing.proofs.Decls.{Declared, Params}
 use Rattle.printing.proofs.Grown.{path_grown}
-open words use {name}
-open phrases use {AFTER-EXPR, AFTER-FOUR, AFTER-PATH, AND, AND-MORE, ARM, ARM-BODY, ARM-COMMA, ARM-NEXT, ARMS, ASSIGNED, BINARY, BLOCK, BRACES, BRACES-INSIDE, COMPARE, COMPARE-MORE, DECLARATION, DECLARATIONS, ELSE, ELSE-IF, ELSE-PART, EXPR, EXPRS, EXPRS-MORE, F-STRING, FIELD, FIELD-NAME, FIELDS, FIELDS-MORE, FOUR, GUARD, IMPORT, IMPORTED, IMPORTPATH, IMPORTPATH-DOT, IMPORTPATH-REST, IMPORTPATHS, IMPORTPATHS-MORE, LET, LET-TYPE, LITERAL, NAME, NAMES, NAMES-MORE, OPERAND, OR-MORE, PARAMS, PARENS, PATH, PATH-ITEM, PATH-REST, PATTERN, POSTFIX, PRODUCT, PRODUCT-MORE, RESULT, RETURNED, STATEMENT, STATEMENTS, SUM, SUM-MORE, TREE, TYPE, TYPE-BASE, TYPE-BRACKETS, TYPE-MARKS, TYPED-NAME, TYPED-NAMES, TYPED-NAMES-MORE, TYPES, TYPES-MORE, VARIANT, VARIANT-NAMES}
 
 -- what is known of a token: a literal's has a value, and a literal's kind
 abbrev pub Knows : Ask → Token → Type 0
@@ -74,7 +72,7 @@ module _ (s : List ℕ) where
   LetOf p = (v : ℕ) × (k : Grove) × ((grow p fresh).kids ≡ top (row_head kinds.LET v 0) k nil) × Says s LET (row_head kinds.LET v 0) k
 
   abbrev pub TypeOk : Head → Grove → Type 0
-  TypeOk h k = Typed s h k × (eqb h.kind kinds.TYPED-NAME ≡ false)
+  TypeOk h k = Typed s h k × (eqb h.kind kinds.TYPED_NAME ≡ false)
 
   -- rests of phrases: from one tree to one; behind a bracket, more trees; behind anything
   abbrev pub On : (Head → Grove → Type 0) → (Head → Grove → Type 0) → Parts → Type 0
@@ -116,7 +114,7 @@ module _ (s : List ℕ) where
   Braced p = (c : ℕ) → (h : Head) × (k : Grove) × Has p (mid nil c 0) (only (top h k nil)) × Placed s h k
 
   abbrev pub PathsOf : Parts → Type 0
-  PathsOf p = (K : Grove) (w : List ℕ) → (k : Grove) × (g : Grove) × (w' : List ℕ) × Has p (sh K w 0) (sh (beside K (top (row_head kinds.IMPORT-PATH 0 0) k g)) w' 0) × Says s IMPORTPATH (row_head kinds.IMPORT-PATH 0 0) k × Paths s g
+  PathsOf p = (K : Grove) (w : List ℕ) → (k : Grove) × (g : Grove) × (w' : List ℕ) × Has p (sh K w 0) (sh (beside K (top (row_head kinds.IMPORT_PATH 0 0) k g)) w' 0) × Says s IMPORTPATH (row_head kinds.IMPORT_PATH 0 0) k × Paths s g
 
 pub record Entry : Type 1 where
   pub kind : ℕ
@@ -136,17 +134,17 @@ claim_in (x ∷ xs) n p = pick (eqb n x.kind) (x.claim p) (claim_in xs n p)
 
 abbrev pub exprs_claims : List ℕ → Bool → List {1} Entry
 exprs_claims s r =
-    (EXPR r says Expr s) ∷ (RETURNED r says Returned s) ∷ (ASSIGNED r says On s PathTree (Placed s)) ∷ (BINARY r says Expr s) ∷ (OR-MORE r says More s) ∷ (AND r says Expr s) ∷ (AND-MORE r says More s) ∷
-    (COMPARE r says Expr s) ∷ (COMPARE-MORE r says More s) ∷ (SUM r says Expr s) ∷ (SUM-MORE r says More s) ∷ (PRODUCT r says Expr s) ∷ (PRODUCT-MORE r says More s) ∷ (OPERAND r says Expr s) ∷ (POSTFIX r says More s) ∷ (AFTER-PATH r says On s PathTree (Placed s)) ∷ []
+    (EXPR r says Expr s) ∷ (RETURNED r says Returned s) ∷ (ASSIGNED r says On s PathTree (Placed s)) ∷ (BINARY r says Expr s) ∷ (OR_MORE r says More s) ∷ (AND r says Expr s) ∷ (AND_MORE r says More s) ∷
+    (COMPARE r says Expr s) ∷ (COMPARE_MORE r says More s) ∷ (SUM r says Expr s) ∷ (SUM_MORE r says More s) ∷ (PRODUCT r says Expr s) ∷ (PRODUCT_MORE r says More s) ∷ (OPERAND r says Expr s) ∷ (POSTFIX r says More s) ∷ (AFTER_PATH r says On s PathTree (Placed s)) ∷ []
 
 abbrev pub claims : List ℕ → List {1} Entry
 claims s =
-    (TYPED-NAMES says Adds s (Params s)) ∷ (TYPED-NAMES-MORE says Adds s (Params s)) ∷ (TYPES says Adds s (Listed s TYPE)) ∷ (TYPES-MORE says Adds s (Listed s TYPE)) ∷
-    (EXPRS says Adds s (Listed s (EXPR records))) ∷ (EXPRS-MORE says Adds s (Listed s (EXPR records))) ∷ (FIELDS says Adds s (Listed s FIELD)) ∷ (FIELDS-MORE says Adds s (Listed s FIELD)) ∷ (NAMES says Adds s (Listed s NAME)) ∷ (NAMES-MORE says Adds s (Listed s NAME)) ∷
-    (TREE says Trees s (Declared s)) ∷ (DECLARATIONS says Joins s (Declared s)) ∷ (DECLARATION says Tree s (Says s DECLARATION)) ∷ (PARAMS says Adds s (Params s)) ∷ (RESULT says Parted s (Perhaps s (TypeOk s))) ∷ (TYPED-NAME says OfKind s (row_head kinds.TYPED-NAME 0 0) (Says s TYPED-NAME (row_head kinds.TYPED-NAME 0 0))) ∷ (NAME says Name s names) ∷ (IMPORT says OfKind s (row_head kinds.IMPORT 0 0) (Says s IMPORT (row_head kinds.IMPORT 0 0))) ∷
-    (IMPORTED says OfKind s (row_head kinds.IMPORT 0 0) (Says s IMPORT (row_head kinds.IMPORT 0 0))) ∷ (IMPORTPATH says OfKind s (row_head kinds.IMPORT-PATH 0 0) (Says s IMPORTPATH (row_head kinds.IMPORT-PATH 0 0))) ∷ (IMPORTPATH-REST says Joins s (ImportRest s)) ∷ (IMPORTPATH-DOT says Joins s (ImportRest s)) ∷ (IMPORTPATHS says PathsOf s) ∷ (IMPORTPATHS-MORE says Joins s (Paths s)) ∷ (PATH-ITEM says Name s path_items) ∷ (PATH says Tree s PathTree) ∷ (PATH-REST says Joins s Items) ∷
-    (TYPE says Tree s (TypeOk s)) ∷ (TYPE-MARKS says On s (TypeOk s) (TypeOk s)) ∷ (TYPE-BASE says Tree s (TypeOk s)) ∷ (TYPE-BRACKETS says On s PathTree (TypeOk s)) ∷
-    (BLOCK says BlockOf s) ∷ (STATEMENTS says Parted s (Stmts s)) ∷ (STATEMENT says Parted s (Stmts s)) ∷ (AFTER-FOUR says After s) ∷ (AFTER-EXPR says After s) ∷ (LET says LetOf s) ∷ (LET-TYPE says Parted s (Perhaps s (TypeOk s))) ∷
-    (LITERAL says Expr s) ∷ (F-STRING says Expr s) ∷ (PARENS says Expr s) ∷ (BRACES says Expr s) ∷ (BRACES-INSIDE says Braced s) ∷ (FIELD says Tree s (Says s FIELD)) ∷ (FIELD-NAME says Name s names) ∷ (FOUR says Expr s) ∷ (ELSE says Adds s (Else s)) ∷ (ELSE-PART says Adds s (Else s)) ∷ (ELSE-IF says Tree s (Says s ELSE-IF)) ∷
-    (ARMS says Trees s (Arms s)) ∷ (ARM says Trees s (Arms s)) ∷ (ARM-BODY says Bodied s) ∷ (ARM-NEXT says Joins s (Arms s)) ∷ (ARM-COMMA says Joins s NoTrees) ∷ (GUARD says Guarded s) ∷ (PATTERN says Tree s (Says s PATTERN)) ∷ (VARIANT says Name s (name ∷ [])) ∷ (VARIANT-NAMES says Variants s) ∷
+    (TYPED_NAMES says Adds s (Params s)) ∷ (TYPED_NAMES_MORE says Adds s (Params s)) ∷ (TYPES says Adds s (Listed s TYPE)) ∷ (TYPES_MORE says Adds s (Listed s TYPE)) ∷
+    (EXPRS says Adds s (Listed s (EXPR records))) ∷ (EXPRS_MORE says Adds s (Listed s (EXPR records))) ∷ (FIELDS says Adds s (Listed s FIELD)) ∷ (FIELDS_MORE says Adds s (Listed s FIELD)) ∷ (NAMES says Adds s (Listed s NAME)) ∷ (NAMES_MORE says Adds s (Listed s NAME)) ∷
+    (TREE says Trees s (Declared s)) ∷ (DECLARATIONS says Joins s (Declared s)) ∷ (DECLARATION says Tree s (Says s DECLARATION)) ∷ (PARAMS says Adds s (Params s)) ∷ (RESULT says Parted s (Perhaps s (TypeOk s))) ∷ (TYPED_NAME says OfKind s (row_head kinds.TYPED_NAME 0 0) (Says s TYPED_NAME (row_head kinds.TYPED_NAME 0 0))) ∷ (NAME says Name s names) ∷ (IMPORT says OfKind s (row_head kinds.IMPORT 0 0) (Says s IMPORT (row_head kinds.IMPORT 0 0))) ∷
+    (IMPORTED says OfKind s (row_head kinds.IMPORT 0 0) (Says s IMPORT (row_head kinds.IMPORT 0 0))) ∷ (IMPORTPATH says OfKind s (row_head kinds.IMPORT_PATH 0 0) (Says s IMPORTPATH (row_head kinds.IMPORT_PATH 0 0))) ∷ (IMPORTPATH_REST says Joins s (ImportRest s)) ∷ (IMPORTPATH_DOT says Joins s (ImportRest s)) ∷ (IMPORTPATHS says PathsOf s) ∷ (IMPORTPATHS_MORE says Joins s (Paths s)) ∷ (PATH_ITEM says Name s path_items) ∷ (PATH says Tree s PathTree) ∷ (PATH_REST says Joins s Items) ∷
+    (TYPE says Tree s (TypeOk s)) ∷ (TYPE_MARKS says On s (TypeOk s) (TypeOk s)) ∷ (TYPE_BASE says Tree s (TypeOk s)) ∷ (TYPE_BRACKETS says On s PathTree (TypeOk s)) ∷
+    (BLOCK says BlockOf s) ∷ (STATEMENTS says Parted s (Stmts s)) ∷ (STATEMENT says Parted s (Stmts s)) ∷ (AFTER_FOUR says After s) ∷ (AFTER_EXPR says After s) ∷ (LET says LetOf s) ∷ (LET_TYPE says Parted s (Perhaps s (TypeOk s))) ∷
+    (LITERAL says Expr s) ∷ (F_STRING says Expr s) ∷ (PARENS says Expr s) ∷ (BRACES says Expr s) ∷ (BRACES_INSIDE says Braced s) ∷ (FIELD says Tree s (Says s FIELD)) ∷ (FIELD_NAME says Name s names) ∷ (FOUR says Expr s) ∷ (ELSE says Adds s (Else s)) ∷ (ELSE_PART says Adds s (Else s)) ∷ (ELSE_IF says Tree s (Says s ELSE_IF)) ∷
+    (ARMS says Trees s (Arms s)) ∷ (ARM says Trees s (Arms s)) ∷ (ARM_BODY says Bodied s) ∷ (ARM_NEXT says Joins s (Arms s)) ∷ (ARM_COMMA says Joins s NoTrees) ∷ (GUARD says Guarded s) ∷ (PATTERN says Tree s (Says s PATTERN)) ∷ (VARIANT says Name s (name ∷ [])) ∷ (VARIANT_NAMES says Variants s) ∷
     (exprs_claims s true ++ exprs_claims s false)

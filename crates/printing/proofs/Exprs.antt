@@ -4,10 +4,10 @@ use mathlib.Core.List.{List, [], ◌++◌, ◌∷◌}
 use mathlib.Core.Bool.{Bool, ◌||◌, cond, false, not, true}
 use Prim.Native.Nat.{ℕ, zero, suc, pred, ◌≤◌}
 use lib.Dec.{T, eqb}
-use Rattle.rows.specs.Kinds.{kinds}
-use Rattle.grammar.specs.Words.{assign_signs, binary_signs, compare_signs, four_words, literals, names, path_items, product_signs, return_words, sum_signs, words}
+use Rattle.rows.specs.Kinds as kinds
+use Rattle.grammar.specs.Words.{'!', '&&', '-', '?', '||', assign_signs, binary_signs, close_paren, compare_signs, dot, f_quote, four_words, literals, names, open_brace, open_paren, path_items, product_signs, return_words, sum_signs}
 use Rattle.grammar.specs.Grammar.{In, Token, alternatives, end, here, leaf, mark, one_of, there}
-use Rattle.grammar.specs.Kinds.{phrases}
+use Rattle.grammar.specs.Kinds.{AFTER_PATH, AND_MORE, ASSIGNED, BINARY, COMPARE_MORE, EXPR, EXPRS, F_STRING, FOUR, LITERAL, NAME, OPERAND, OR_MORE, PATH, PATH_ITEM, PATH_REST, POSTFIX, PRODUCT_MORE, RETURNED, SUM_MORE}
 use Rattle.grammar.specs.Readings.{peek, reads_end, reads_note, reads_token}
 use Rattle.grammar.specs.Table.{a, one, word, opens, closes, prefix, row, literal_row}
 use Rattle.grammar.specs.Rows.{is_text, place_in}
@@ -21,8 +21,6 @@ use Rattle.printing.specs.Pairs.{Choice, after, number, under}
 use Rattle.printing.proofs.Lists.{Rest, Rst, Whole, binary, chain, compared, done, finish, grow_leaf, in_chain_compare, in_more_and, in_more_compare, in_more_or, in_more_product, in_more_sum, in_no_and, in_no_product, in_no_sum, l, more, more_after_path, more_and_more, more_compare_more, more_or_more, more_postfix, more_product_more, more_sum_more, none, own_and, own_compare, own_operand, own_product, own_sum, put, rest, sub, tok}
 use Rattle.printing.proofs.Levels.{Level}
 use Rattle.printing.proofs.Placed.{Barred, Fair, Items, PathTree, Placed, a_brace, apart, barred, each_of, more_items, name_head, natural, no_items, no_word, path, row_head, settle, the_four}
-open words use {'!', '&&', '-', '?', '||', close-paren, dot, f-quote, open-brace, open-paren}
-open phrases use {AFTER-PATH, AND-MORE, ASSIGNED, BINARY, COMPARE-MORE, EXPR, EXPRS, F-STRING, FOUR, LITERAL, NAME, OPERAND, OR-MORE, PATH, PATH-ITEM, PATH-REST, POSTFIX, PRODUCT-MORE, RETURNED, SUM-MORE}
 
 pub in_not : (r : Bool) → In (prefix ('!' ∷ []) ∷ a (OPERAND r) ∷ row kinds.NOT ∷ []) (alternatives l (OPERAND r))
 unfolding roto
@@ -39,12 +37,12 @@ unfolding roto
 in_literal true = there (there here)
 in_literal false = there (there here)
 
-pub in_f_string : (r : Bool) → In (a F-STRING ∷ a (POSTFIX r) ∷ []) (alternatives l (OPERAND r))
+pub in_f_string : (r : Bool) → In (a F_STRING ∷ a (POSTFIX r) ∷ []) (alternatives l (OPERAND r))
 unfolding roto
 in_f_string true = there (there (there here))
 in_f_string false = there (there (there here))
 
-pub in_path : (r : Bool) → In (a PATH ∷ a (AFTER-PATH r) ∷ []) (alternatives l (OPERAND r))
+pub in_path : (r : Bool) → In (a PATH ∷ a (AFTER_PATH r) ∷ []) (alternatives l (OPERAND r))
 unfolding roto
 in_path true = there (there (there (there here)))
 in_path false = there (there (there (there here)))
@@ -59,7 +57,7 @@ unfolding roto
 in_question true = there here
 in_question false = there here
 
-pub in_call : (r : Bool) → In (opens open-paren ∷ a EXPRS ∷ closes close-paren ∷ row kinds.CALL ∷ a (POSTFIX r) ∷ []) (alternatives l (POSTFIX r))
+pub in_call : (r : Bool) → In (opens open_paren ∷ a EXPRS ∷ closes close_paren ∷ row kinds.CALL ∷ a (POSTFIX r) ∷ []) (alternatives l (POSTFIX r))
 unfolding roto
 in_call true = there (there here)
 in_call false = there (there here)
@@ -69,12 +67,12 @@ unfolding roto
 in_access true = there (there (there here))
 in_access false = there (there (there here))
 
-pub in_path_question : (r : Bool) → In (word '?' ∷ row kinds.QUESTION ∷ a (POSTFIX r) ∷ []) (alternatives l (AFTER-PATH r))
+pub in_path_question : (r : Bool) → In (word '?' ∷ row kinds.QUESTION ∷ a (POSTFIX r) ∷ []) (alternatives l (AFTER_PATH r))
 unfolding roto
 in_path_question true = there here
 in_path_question false = there here
 
-pub in_path_call : (r : Bool) → In (opens open-paren ∷ a EXPRS ∷ closes close-paren ∷ row kinds.CALL ∷ a (POSTFIX r) ∷ []) (alternatives l (AFTER-PATH r))
+pub in_path_call : (r : Bool) → In (opens open_paren ∷ a EXPRS ∷ closes close_paren ∷ row kinds.CALL ∷ a (POSTFIX r) ∷ []) (alternatives l (AFTER_PATH r))
 unfolding roto
 in_path_call true = there (there here)
 in_path_call false = there (there here)
@@ -95,14 +93,14 @@ in_assigned true = there here
 in_assigned false = there here
 
 -- no barred word
-pub free : (c : ℕ) (u : Barred) → T (not (one_of c (open-brace ∷ four_words))) → T (not (one_of c (barred u)))
+pub free : (c : ℕ) (u : Barred) → T (not (one_of c (open_brace ∷ four_words))) → T (not (one_of c (barred u)))
 free c no_word t = tt
-free c the_four t = go (eqb c open-brace) (one_of c four_words) t
+free c the_four t = go (eqb c open_brace) (one_of c four_words) t
   where
     go : (b d : Bool) → T (not (b || d)) → T (not d)
     go true d t = absurd t
     go false d t = t
-free c a_brace t = go (eqb c open-brace) (one_of c four_words) t
+free c a_brace t = go (eqb c open_brace) (one_of c four_words) t
   where
     go : (b d : Bool) → T (not (b || d)) → T (not (b || false))
     go true d t = absurd t
@@ -117,7 +115,7 @@ pub in_name : In (one names ∷ row kinds.NAME ∷ []) (alternatives l NAME)
 unfolding roto
 in_name = here
 
-pub in_item : In (one path_items ∷ row kinds.NAME ∷ []) (alternatives l PATH-ITEM)
+pub in_item : In (one path_items ∷ row kinds.NAME ∷ []) (alternatives l PATH_ITEM)
 unfolding roto
 in_item = here
 
@@ -146,7 +144,7 @@ abbrev pub leaf_head : ℕ → Token → Head
 leaf_head k x = record { kind = k; value = x.value; detail = x.detail; tokens = x ∷ [] }
 
 abbrev pub text_row_head : ℕ → List Token → Head
-text_row_head v ts = record { kind = kinds.F-STRING; value = v; detail = 0; tokens = ts }
+text_row_head v ts = record { kind = kinds.F_STRING; value = v; detail = 0; tokens = ts }
 
 module _ (s : List ℕ) where
   -- a row of two with a sign between: the sign's detail d, the levels that it asks
@@ -191,20 +189,20 @@ module _ (s : List ℕ) where
     Sign d w = T (one_of (nth binary_signs (pred d)) w) × (place_in (nth binary_signs (pred d)) binary_signs ≡ d) × (is_text (sign_for d) ≡ false)
 
     or_row : (d : ℕ) → binary_level d ≡ 1 → left_level d ≡ 1 → Sign d ('||' ∷ []) → Placed s (binary_head d) kids
-    or_row d e f m = signed_row d 1 (ap (λ (n : ℕ). cond (eqb n 7) 8 n) e) (λ c χ a b y z g v. left_at d 1 f c tt χ a _ _ _ (more (sign_for d) (in_more_or c.records) m.2 m.0 (own_and c.records) (more_or_more c.records) (right_at d 2 (ap suc e) c tt χ b y y _ (none (in_no_and c.records))) (subst (λ (i : ℕ). Rest (OR-MORE c.records) y z (binary i kids) g) (sym m.1) v)))
+    or_row d e f m = signed_row d 1 (ap (λ (n : ℕ). cond (eqb n 7) 8 n) e) (λ c χ a b y z g v. left_at d 1 f c tt χ a _ _ _ (more (sign_for d) (in_more_or c.records) m.2 m.0 (own_and c.records) (more_or_more c.records) (right_at d 2 (ap suc e) c tt χ b y y _ (none (in_no_and c.records))) (subst (λ (i : ℕ). Rest (OR_MORE c.records) y z (binary i kids) g) (sym m.1) v)))
 
     and_row : (d : ℕ) → binary_level d ≡ 2 → left_level d ≡ 2 → Sign d ('&&' ∷ []) → Placed s (binary_head d) kids
-    and_row d e f m = signed_row d 2 (ap (λ (n : ℕ). cond (eqb n 7) 8 n) e) (λ c χ a b y z g v. left_at d 2 f c tt χ a _ _ _ (more (sign_for d) (in_more_and c.records) m.2 m.0 (own_compare c.records) (more_and_more c.records) (right_at d 3 (ap suc e) c tt χ b y) (subst (λ (i : ℕ). Rest (AND-MORE c.records) y z (binary i kids) g) (sym m.1) v)))
+    and_row d e f m = signed_row d 2 (ap (λ (n : ℕ). cond (eqb n 7) 8 n) e) (λ c χ a b y z g v. left_at d 2 f c tt χ a _ _ _ (more (sign_for d) (in_more_and c.records) m.2 m.0 (own_compare c.records) (more_and_more c.records) (right_at d 3 (ap suc e) c tt χ b y) (subst (λ (i : ℕ). Rest (AND_MORE c.records) y z (binary i kids) g) (sym m.1) v)))
 
     compare_row : (d : ℕ) → binary_level d ≡ 3 → left_level d ≡ 4 → Sign d compare_signs → Placed s (binary_head d) kids
     compare_row d e f m = signed_row d 3 (ap (λ (n : ℕ). cond (eqb n 7) 8 n) e) (λ c χ a b y. chain (in_chain_compare c.records) (own_sum c.records) (more_compare_more c.records) (left_at d 4 f c tt χ a _ _ _ (none (in_no_sum c.records)))
-        (subst (λ (i : ℕ). Rest (COMPARE-MORE c.records) (sign_for d ∷ right_said (suc (binary_level d)) c χ y) y (top h k nil) (binary i kids)) m.1 (compared (sign_for d) (in_more_compare c.records) m.2 m.0 (own_sum c.records) (right_at d 4 (ap suc e) c tt χ b y y _ (none (in_no_sum c.records))))))
+        (subst (λ (i : ℕ). Rest (COMPARE_MORE c.records) (sign_for d ∷ right_said (suc (binary_level d)) c χ y) y (top h k nil) (binary i kids)) m.1 (compared (sign_for d) (in_more_compare c.records) m.2 m.0 (own_sum c.records) (right_at d 4 (ap suc e) c tt χ b y y _ (none (in_no_sum c.records))))))
 
     sum_row : (d : ℕ) → binary_level d ≡ 4 → left_level d ≡ 4 → Sign d sum_signs → Placed s (binary_head d) kids
-    sum_row d e f m = signed_row d 4 (ap (λ (n : ℕ). cond (eqb n 7) 8 n) e) (λ c χ a b y z g v. left_at d 4 f c tt χ a _ _ _ (more (sign_for d) (in_more_sum c.records) m.2 m.0 (own_product c.records) (more_sum_more c.records) (right_at d 5 (ap suc e) c tt χ b y y _ (none (in_no_product c.records))) (subst (λ (i : ℕ). Rest (SUM-MORE c.records) y z (binary i kids) g) (sym m.1) v)))
+    sum_row d e f m = signed_row d 4 (ap (λ (n : ℕ). cond (eqb n 7) 8 n) e) (λ c χ a b y z g v. left_at d 4 f c tt χ a _ _ _ (more (sign_for d) (in_more_sum c.records) m.2 m.0 (own_product c.records) (more_sum_more c.records) (right_at d 5 (ap suc e) c tt χ b y y _ (none (in_no_product c.records))) (subst (λ (i : ℕ). Rest (SUM_MORE c.records) y z (binary i kids) g) (sym m.1) v)))
 
     product_row : (d : ℕ) → binary_level d ≡ 5 → left_level d ≡ 5 → Sign d product_signs → Placed s (binary_head d) kids
-    product_row d e f m = signed_row d 5 (ap (λ (n : ℕ). cond (eqb n 7) 8 n) e) (λ c χ a b y z g v. left_at d 5 f c tt χ a _ _ _ (more (sign_for d) (in_more_product c.records) m.2 m.0 (own_operand c.records) (more_product_more c.records) (right_at d 6 (ap suc e) c tt χ b y) (subst (λ (i : ℕ). Rest (PRODUCT-MORE c.records) y z (binary i kids) g) (sym m.1) v)))
+    product_row d e f m = signed_row d 5 (ap (λ (n : ℕ). cond (eqb n 7) 8 n) e) (λ c χ a b y z g v. left_at d 5 f c tt χ a _ _ _ (more (sign_for d) (in_more_product c.records) m.2 m.0 (own_operand c.records) (more_product_more c.records) (right_at d 6 (ap suc e) c tt χ b y) (subst (λ (i : ℕ). Rest (PRODUCT_MORE c.records) y z (binary i kids) g) (sym m.1) v)))
 
     pub binary_row : (c : ℕ) → T (one_of c binary_signs) → Placed s (binary_head (place_in c binary_signs)) kids
     binary_row c m = each_of (λ c. Placed s (binary_head (place_in c binary_signs)) kids) binary_signs c m
@@ -260,13 +258,13 @@ module _ (s : List ℕ) where
     })
 
   -- a path
-  items : {g : Grove} (χ : Choice) (K : Grove) (w : List ℕ) (z : List Token) → Items g → (w' : List ℕ) × Rst PATH-REST (said s kinds.PATH false (each (dot ∷ []) whole (labelled s g)) [] g χ z) z (record { kids = K; sign = w; part = 0 }) (record { kids = beside K g; sign = w'; part = 0 })
+  items : {g : Grove} (χ : Choice) (K : Grove) (w : List ℕ) (z : List Token) → Items g → (w' : List ℕ) × Rst PATH_REST (said s kinds.PATH false (each (dot ∷ []) whole (labelled s g)) [] g χ z) z (record { kids = K; sign = w; part = 0 }) (record { kids = beside K g; sign = w'; part = 0 })
   unfolding said roto
-  items χ K w z no_items = (w, subst (λ (t : Grove). Rst PATH-REST z z (record { kids = K; sign = w; part = 0 }) (record { kids = t; sign = w; part = 0 })) (sym (beside_nil K)) (none here))
+  items χ K w z no_items = (w, subst (λ (t : Grove). Rst PATH_REST z z (record { kids = K; sign = w; part = 0 }) (record { kids = t; sign = w; part = 0 })) (sym (beside_nil K)) (none here))
   items χ K w z (more_items x {g} m it) =
       let u = items (after χ) (beside K (top (name_head x) nil nil)) (signed w dot) z it in (
         u.0,
-        subst (λ (t : Grove). Rst PATH-REST (token_of dot ∷ x ∷ said s kinds.PATH false (each (dot ∷ []) whole (labelled s g)) [] g (after χ) z) z (record { kids = K; sign = w; part = 0 }) (record { kids = t; sign = u.0; part = 0 })) (beside_on K (name_head x) nil g)
+        subst (λ (t : Grove). Rst PATH_REST (token_of dot ∷ x ∷ said s kinds.PATH false (each (dot ∷ []) whole (labelled s g)) [] g (after χ) z) z (record { kids = K; sign = w; part = 0 }) (record { kids = t; sign = u.0; part = 0 })) (beside_on K (name_head x) nil g)
             (record { alt = _; takes = there here; goes = tok (token_of dot) refl tt (λ d. tt) (sub refl (named x path_items in_item tt m) (rest refl u.1 done)) }),
       )
 
@@ -289,7 +287,7 @@ module _ (s : List ℕ) where
   unfolding said layout layouts
   path_row (path x {g} m it) = settle s (row_head kinds.PATH 0 0) (top (name_head x) nil g) (record {
     stands = λ c χ e t y z g' v w. chain (in_path c.records) refl (more_after_path c.records) (path_whole c χ y (path x m it)) w;
-    begin = λ c u χ e t f z. free x.word u (apart path_items (open-brace ∷ four_words) x.word tt m);
+    begin = λ c u χ e t f z. free x.word u (apart path_items (open_brace ∷ four_words) x.word tt m);
     path = λ t. path x m it;
     four = absurd;
     block = absurd;
@@ -314,7 +312,7 @@ module _ (s : List ℕ) where
   literal_as x m h k i e n f f' f'' f''' = settle s (leaf_head k x) nil (record {
     stands = λ c χ j t. subst (λ (o : ℕ). Level o c.records (body s c (leaf_head k x) nil χ) (top (leaf_head k x) nil nil)) (sym n)
         (λ y z g v. subst (λ (t : List Token). Whole (OPERAND c.records) t z g) (sym (copied_body c (leaf_head k x) nil χ y e)) (chain (in_literal c.records) refl (more_postfix c.records) (subst (λ (o : ℕ). Whole LITERAL (x ∷ y) y (top (leaf_head o x) nil nil)) i (literal_whole x y m h (ap (λ (o : ℕ). one_of o copied) i ∙ e))) v));
-    begin = λ c u χ j t q z. subst (λ (t : List Token). T (not (one_of (peek lists l t) (barred u)))) (sym (copied_body c (leaf_head k x) nil χ z e)) (free x.word u (apart literals (open-brace ∷ four_words) x.word tt m));
+    begin = λ c u χ j t q z. subst (λ (t : List Token). T (not (one_of (peek lists l t) (barred u)))) (sym (copied_body c (leaf_head k x) nil χ z e)) (free x.word u (apart literals (open_brace ∷ four_words) x.word tt m));
     path = λ t. absurd (f t);
     four = λ t. absurd (f' t);
     block = λ t. absurd (f'' t);
@@ -327,13 +325,13 @@ module _ (s : List ℕ) where
 
   -- a string with expressions inside, copied whole
   pub record CopiedText (v : ℕ) (ts : List Token) (k : Grove) : Type 0 where
-    pub reads : (y : List Token) → Whole F-STRING (ts ++ y) y (top (text_row_head v ts) k nil)
-    pub quote : (y : List Token) → peek lists l (ts ++ y) ≡ f-quote
+    pub reads : (y : List Token) → Whole F_STRING (ts ++ y) y (top (text_row_head v ts) k nil)
+    pub quote : (y : List Token) → peek lists l (ts ++ y) ≡ f_quote
 
   pub f_string_row : (v : ℕ) (ts : List Token) (k : Grove) → CopiedText v ts k → Placed s (text_row_head v ts) k
   f_string_row v ts k u = settle s (text_row_head v ts) k (record {
     stands = λ c χ e t y z g w. chain (in_f_string c.records) refl (more_postfix c.records) (u.reads y) w;
-    begin = λ c b χ e t f z. subst (λ (o : ℕ). T (not (one_of o (barred b)))) (sym (u.quote z)) (free f-quote b tt);
+    begin = λ c b χ e t f z. subst (λ (o : ℕ). T (not (one_of o (barred b)))) (sym (u.quote z)) (free f_quote b tt);
     path = absurd;
     four = absurd;
     block = absurd;

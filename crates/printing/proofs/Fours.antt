@@ -4,10 +4,10 @@ use mathlib.Core.List.{List, [], ◌∷◌, ◌++◌}
 use mathlib.Core.Bool.{Bool, true, false, not, ◌||◌, ◌&&◌, cond}
 use Prim.Native.Nat.{ℕ, zero, suc, pred, ◌≤◌}
 use lib.Dec.{T, eqb}
-use Rattle.rows.specs.Kinds.{kinds}
-use Rattle.grammar.specs.Words.{names, words as the-words}
+use Rattle.rows.specs.Kinds as kinds
+use Rattle.grammar.specs.Words.{'=>', 'else', 'for', 'if', 'in', 'match', 'while', close_brace, close_paren, comma, name, names, open_brace, open_paren, underscore}
 use Rattle.grammar.specs.Grammar.{Ask, In, Token, alternatives, end, here, leaf, mark, one_of, there, token}
-use Rattle.grammar.specs.Kinds.{no_records, phrases}
+use Rattle.grammar.specs.Kinds.{ARM, ARM_BODY, ARM_COMMA, ARM_NEXT, ARMS, BLOCK, ELSE, ELSE_IF, EXPR, FOUR, GUARD, NAME, PATTERN, VARIANT, no_records}
 use Rattle.grammar.specs.Readings.{peek, reads_end, reads_note, reads_token}
 use Rattle.grammar.specs.Table.{a, one, word, opens, closes, prefix, row, part, rest_kinds, behind}
 use Rattle.grammar.specs.Rows.{is_text, place_in}
@@ -22,8 +22,6 @@ use Rattle.printing.proofs.Lists.{Rst, Whole, bar, chain, done, finish, grow_lea
 use Rattle.printing.proofs.Placed.{Placed, a_brace, barred, name_head, needs_begins, path, row_head, settle}
 use Rattle.printing.proofs.Exprs.{beside_nil, in_four, in_name, named, two}
 use Rattle.printing.proofs.Calls.{Listed, Says, alone, list_all, mid, name_list, own_begin, said_list}
-open the-words use {'=>', 'else', 'for', 'if', 'in', 'match', 'while', close-brace, close-paren, comma, name, open-brace, open-paren, underscore}
-open phrases use {ARM, ARM-BODY, ARM-COMMA, ARM-NEXT, ARMS, BLOCK, ELSE, ELSE-IF, EXPR, FOUR, GUARD, NAME, PATTERN, VARIANT}
 
 module _ (s : List ℕ) where
   -- the pairs round a last child: none round a block
@@ -34,7 +32,7 @@ module _ (s : List ℕ) where
   pub data Else : Grove → Type 0 where
     no_else : Else nil
     else_block : {h : Head} {k : Grove} → Says s BLOCK h k → Else (top h k nil)
-    else_if : {h : Head} {k : Grove} → Says s ELSE-IF h k → Else (top h k nil)
+    else_if : {h : Head} {k : Grove} → Says s ELSE_IF h k → Else (top h k nil)
 
   abbrev elses : Grove → Choice → List Token → List Token
   elses nil χ z = z
@@ -70,7 +68,7 @@ module _ (s : List ℕ) where
     unfolding layout layouts
     if_read {n = n} {g = g} c χ z b o t u = subst (λ (y : List Token). Whole n y z (row_over kinds.IF 0 0 (if_kids g))) (sym (if_said c χ z u)) (finish o (tok (token_of 'if') refl tt t (sub refl (p.stands head tt (number χ) (under χ) (b.0, b.1) _) (sub refl (q 0 tt (under (after χ)) (b.2.0, b.2.1) _) (rest refl (else_read (after (after χ)) (two h k h' k') 'if' z u (else_suits c χ u b)) (put kinds.IF refl refl refl done))))))
 
-    pub else_if_says : (g : Grove) → Else g → Says s ELSE-IF (row_head kinds.IF 0 0) (if_kids g)
+    pub else_if_says : (g : Grove) → Else g → Says s ELSE_IF (row_head kinds.IF 0 0) (if_kids g)
     unfolding said layout layouts roto
     else_if_says g u = alone s tt (λ χ b z. if_read whole χ z b here (λ d. tt) u)
 
@@ -132,8 +130,8 @@ module _ (s : List ℕ) where
 
   pub variant_of : (x : Token) (g : Grove) → T (one_of x.word (name ∷ [])) → Listed s NAME g → Says s PATTERN (row_head kinds.VARIANT 1 0) (top (name_head x) nil g)
   unfolding said layout layouts roto
-  variant_of x g m u = alone s tt (λ χ b z. subst (λ (t : List Token). Whole PATTERN (x ∷ t) z (row_over kinds.VARIANT 1 0 (top (name_head x) nil g))) (sym (said_list s kinds.VARIANT false open-paren close-paren g (after χ) z))
-      (finish here (sub {n = VARIANT} refl (named x (name ∷ []) here tt m) (rest refl (record { alt = _; takes = there here; goes = tok (token_of open-paren) refl tt (λ d. tt) (rest refl (list_all s name_list kinds.VARIANT (λ i h t χ. tt) false (after χ) open-paren (top (name_head x) nil nil) open-paren 0 close-paren z u b.2) (tok (token_of close-paren) refl tt (λ d. tt) (told (put kinds.VARIANT refl refl refl done)))) }) done))))
+  variant_of x g m u = alone s tt (λ χ b z. subst (λ (t : List Token). Whole PATTERN (x ∷ t) z (row_over kinds.VARIANT 1 0 (top (name_head x) nil g))) (sym (said_list s kinds.VARIANT false open_paren close_paren g (after χ) z))
+      (finish here (sub {n = VARIANT} refl (named x (name ∷ []) here tt m) (rest refl (record { alt = _; takes = there here; goes = tok (token_of open_paren) refl tt (λ d. tt) (rest refl (list_all s name_list kinds.VARIANT (λ i h t χ. tt) false (after χ) open_paren (top (name_head x) nil nil) open_paren 0 close_paren z u b.2) (tok (token_of close_paren) refl tt (λ d. tt) (told (put kinds.VARIANT refl refl refl done)))) }) done))))
 
   -- arms: pattern, perhaps a guard, body
   pub data Arm : ℕ → Grove → Type 0 where
@@ -145,7 +143,7 @@ module _ (s : List ℕ) where
     more_arms : {v : ℕ} {k g : Grove} → Arm v k → Arms g → Arms (top (row_head kinds.ARM v 0) k g)
 
   abbrev armed : Grove → Choice → List Token → List Token
-  armed g χ z = said s kinds.MATCH false (arms [] (labelled s g)) (close-brace ∷ []) g χ z
+  armed g χ z = said s kinds.MATCH false (arms [] (labelled s g)) (close_brace ∷ []) g χ z
 
   abbrev ArmsSuit : Grove → Choice → Type 0
   ArmsSuit g χ = Suits s kinds.MATCH false (arms [] (labelled s g)) g χ
@@ -155,7 +153,7 @@ module _ (s : List ℕ) where
 
   -- behind an arm's body: a block as it stands is in no pair
   abbrev place_if : Bool → Place
-  place_if b = cond b whole (asks 0 true (open-brace ∷ []))
+  place_if b = cond b whole (asks 0 true (open_brace ∷ []))
 
   abbrev body_place : ℕ → Place
   body_place k = place_if (eqb k kinds.BLOCK)
@@ -172,10 +170,10 @@ module _ (s : List ℕ) where
   suit_block : (h : Head) (k : Grove) (χ : Choice) → eqb h.kind kinds.BLOCK ≡ true → Suit s (body_place h.kind) (many h χ) h k (under χ) → Under s whole h k (under χ)
   suit_block h k χ e b = (subst (λ (b : Bool). Suit s (place_if b) (many_if b χ) h k (under χ)) e b).1
 
-  say_body : (h : Head) (k : Grove) (n : ℕ) (χ : Choice) (y : List Token) → eqb h.kind kinds.BLOCK ≡ false → say s (body_place h.kind) n h k χ y ≡ say s (asks 0 true (open-brace ∷ [])) n h k χ y
+  say_body : (h : Head) (k : Grove) (n : ℕ) (χ : Choice) (y : List Token) → eqb h.kind kinds.BLOCK ≡ false → say s (body_place h.kind) n h k χ y ≡ say s (asks 0 true (open_brace ∷ [])) n h k χ y
   say_body h k n χ y e = ap (λ (b : Bool). say s (place_if b) n h k χ y) e
 
-  suit_body : (h : Head) (k : Grove) (n : ℕ) (χ : Choice) → eqb h.kind kinds.BLOCK ≡ false → Suit s (body_place h.kind) n h k χ → Suit s (asks 0 true (open-brace ∷ [])) n h k χ
+  suit_body : (h : Head) (k : Grove) (n : ℕ) (χ : Choice) → eqb h.kind kinds.BLOCK ≡ false → Suit s (body_place h.kind) n h k χ → Suit s (asks 0 true (open_brace ∷ [])) n h k χ
   suit_body h k n χ e b = subst (λ (b : Bool). Suit s (place_if b) n h k χ) e b
 
   no_comma : (b : Bool) (k : ℕ) (z : List Token) → eqb k kinds.BLOCK ≡ true → words (comma_if b k) z ≡ z
@@ -190,31 +188,31 @@ module _ (s : List ℕ) where
     arm_top g = top (row_head kinds.ARM v 0) (beside K (top h k nil)) g
 
     -- the body and the arms behind it, i being the phrase's first word
-    body_read : (b : Bool) → eqb h.kind kinds.BLOCK ≡ b → (g : Grove) (i : ℕ) → Whole ARMS (armed g χ' z) (token_of close-brace ∷ z) g → (w : List ℕ) × Rst ARM-BODY (say s (body_place h.kind) (many h χ) h k (under χ) (words (comma_if (has g) h.kind) (armed g χ' z))) (token_of close-brace ∷ z) (mid K i v) (record { kids = arm_top g; sign = w; part = 0 })
+    body_read : (b : Bool) → eqb h.kind kinds.BLOCK ≡ b → (g : Grove) (i : ℕ) → Whole ARMS (armed g χ' z) (token_of close_brace ∷ z) g → (w : List ℕ) × Rst ARM_BODY (say s (body_place h.kind) (many h χ) h k (under χ) (words (comma_if (has g) h.kind) (armed g χ' z))) (token_of close_brace ∷ z) (mid K i v) (record { kids = arm_top g; sign = w; part = 0 })
     unfolding roto said
     body_read true e g i u = (
       [],
-      subst (λ (t : List Token). Rst ARM-BODY t (token_of close-brace ∷ z) (mid K i v) (only (arm_top g))) (sym (say_block h k χ (words (comma_if (has g) h.kind) (armed g χ' z)) e ∙ ap (body s whole h k (under χ)) (no_comma (has g) h.kind (armed g χ' z) e)))
-          (record { alt = _; takes = here; goes = sub refl (p.block (subst T (sym e) tt) (under χ) (suit_block h k χ e q) (armed g χ' z)) (put kinds.ARM refl refl refl (rest refl (none {n = ARM-COMMA} here) (sub refl u done))) }),
+      subst (λ (t : List Token). Rst ARM_BODY t (token_of close_brace ∷ z) (mid K i v) (only (arm_top g))) (sym (say_block h k χ (words (comma_if (has g) h.kind) (armed g χ' z)) e ∙ ap (body s whole h k (under χ)) (no_comma (has g) h.kind (armed g χ' z) e)))
+          (record { alt = _; takes = here; goes = sub refl (p.block (subst T (sym e) tt) (under χ) (suit_block h k χ e q) (armed g χ' z)) (put kinds.ARM refl refl refl (rest refl (none {n = ARM_COMMA} here) (sub refl u done))) }),
     )
     body_read false e nil i u =
-        let c = asks 0 true (open-brace ∷ []) in
+        let c = asks 0 true (open_brace ∷ []) in
         let n = many h χ in
         let f = suit_body h k n (under χ) e q in (
           [],
-          subst (λ (t : List Token). Rst ARM-BODY t (token_of close-brace ∷ z) (mid K i v) (only (arm_top nil))) (sym (say_body h k n (under χ) (token_of close-brace ∷ z) e))
-              (record { alt = _; takes = there here; goes = bar (p.begin c a_brace n (under χ) f refl (token_of close-brace ∷ z)) (sub refl (p.stands c tt n (under χ) f (token_of close-brace ∷ z)) (put kinds.ARM refl refl refl (rest refl (none {n = ARM-NEXT} here) done))) }),
+          subst (λ (t : List Token). Rst ARM_BODY t (token_of close_brace ∷ z) (mid K i v) (only (arm_top nil))) (sym (say_body h k n (under χ) (token_of close_brace ∷ z) e))
+              (record { alt = _; takes = there here; goes = bar (p.begin c a_brace n (under χ) f refl (token_of close_brace ∷ z)) (sub refl (p.stands c tt n (under χ) f (token_of close_brace ∷ z)) (put kinds.ARM refl refl refl (rest refl (none {n = ARM_NEXT} here) done))) }),
         )
     body_read false e (top h' k' g) i u =
-        let c = asks 0 true (open-brace ∷ []) in
+        let c = asks 0 true (open_brace ∷ []) in
         let n = many h χ in
         let f = suit_body h k n (under χ) e q in (
           comma ∷ [],
-          subst (λ (t : List Token). Rst ARM-BODY t (token_of close-brace ∷ z) (mid K i v) (record { kids = arm_top (top h' k' g); sign = comma ∷ []; part = 0 })) (sym (say_body h k n (under χ) (words (comma_if true h.kind) (armed (top h' k' g) χ' z)) e ∙ ap (say s c n h k (under χ)) (a_comma h.kind (armed (top h' k' g) χ' z) e)))
+          subst (λ (t : List Token). Rst ARM_BODY t (token_of close_brace ∷ z) (mid K i v) (record { kids = arm_top (top h' k' g); sign = comma ∷ []; part = 0 })) (sym (say_body h k n (under χ) (words (comma_if true h.kind) (armed (top h' k' g) χ' z)) e ∙ ap (say s c n h k (under χ)) (a_comma h.kind (armed (top h' k' g) χ' z) e)))
               (record { alt = _; takes = there here; goes = bar (p.begin c a_brace n (under χ) f refl _) (sub refl (p.stands c tt n (under χ) f _) (put kinds.ARM refl refl refl (rest refl (record { alt = _; takes = there here; goes = tok (token_of comma) refl tt (λ d. tt) (sub {n = ARMS} refl u done) }) done))) }),
         )
 
-  arms_read : {g : Grove} (χ : Choice) (z : List Token) → Arms g → ArmsSuit g χ → Whole ARMS (armed g χ z) (token_of close-brace ∷ z) g
+  arms_read : {g : Grove} (χ : Choice) (z : List Token) → Arms g → ArmsSuit g χ → Whole ARMS (armed g χ z) (token_of close_brace ∷ z) g
   unfolding said layout layouts roto
   arms_read χ z no_arms b = finish here done
   arms_read χ z (more_arms {g = g} (plain_arm {h = h} {h' = h'} {k = k} {k' = k'} f p) u) b =
@@ -227,19 +225,19 @@ module _ (s : List ℕ) where
       let r = body_read h'' k'' p 1 (two h k h' k') z (after x) (after χ) (d.2.2.0, d.2.2.1) (eqb h''.kind kinds.BLOCK) refl g 'if' (arms_read (after χ) z u b.2) in
       finish (there here) (sub {n = ARM} refl (finish here (sub refl (f 0 tt (under (under χ)) (d.0, d.1) _) (rest refl (record { alt = _; takes = there here; goes = tok (token_of 'if') refl tt (λ d. tt) (sub refl (q.stands whole tt (number x) (under x) (d.2.0, d.2.1) _) (told done)) }) (tok (token_of '=>') refl tt (λ d. tt) (rest refl r.1 done))))) done)
 
-  match_said : (c : Place) (h : Head) (k g : Grove) (χ : Choice) (z : List Token) → body s c (row_head kinds.MATCH 0 0) (top h k g) χ z ≡ token_of 'match' ∷ say s head (number χ) h k (under χ) (token_of open-brace ∷ armed g (after χ) z)
+  match_said : (c : Place) (h : Head) (k g : Grove) (χ : Choice) (z : List Token) → body s c (row_head kinds.MATCH 0 0) (top h k g) χ z ≡ token_of 'match' ∷ say s head (number χ) h k (under χ) (token_of open_brace ∷ armed g (after χ) z)
   unfolding said layout layouts
   match_said c h k nil χ z = refl
   match_said c h k (top h' k' g) χ z = refl
 
-  arms_suit : (g : Grove) (χ : Choice) → Suits s kinds.MATCH false (arms (open-brace ∷ []) (labelled s g)) g χ → ArmsSuit g χ
+  arms_suit : (g : Grove) (χ : Choice) → Suits s kinds.MATCH false (arms (open_brace ∷ []) (labelled s g)) g χ → ArmsSuit g χ
   arms_suit nil χ b = tt
   arms_suit (top h k g) χ b = b
 
   match_read : (h : Head) (k g : Grove) (c : Place) (χ : Choice) (z : List Token) → Placed s h k → Arms g → Under s c (row_head kinds.MATCH 0 0) (top h k g) χ → Whole FOUR (body s c (row_head kinds.MATCH 0 0) (top h k g) χ z) z (row_over kinds.MATCH 0 0 (top h k g))
   unfolding layout layouts roto
   match_read h k g c χ z p u b = subst (λ (t : List Token). Whole FOUR t z (row_over kinds.MATCH 0 0 (top h k g))) (sym (match_said c h k g χ z))
-      (finish (there (there (there here))) (tok (token_of 'match') refl tt (λ d. tt) (sub refl (p.stands head tt (number χ) (under χ) (b.0, b.1) _) (tok (token_of open-brace) refl tt (λ d. tt) (sub refl (arms_read (after χ) z u (arms_suit g (after χ) b.2)) (tok (token_of close-brace) refl tt (λ d. tt) (put kinds.MATCH refl refl refl done)))))))
+      (finish (there (there (there here))) (tok (token_of 'match') refl tt (λ d. tt) (sub refl (p.stands head tt (number χ) (under χ) (b.0, b.1) _) (tok (token_of open_brace) refl tt (λ d. tt) (sub refl (arms_read (after χ) z u (arms_suit g (after χ) b.2)) (tok (token_of close_brace) refl tt (λ d. tt) (put kinds.MATCH refl refl refl done)))))))
 
   pub match_row : (h : Head) (k g : Grove) → Placed s h k → Arms g → Placed s (row_head kinds.MATCH 0 0) (top h k g)
   match_row h k g p u = settle s (row_head kinds.MATCH 0 0) (top h k g) (record {

@@ -6,10 +6,10 @@ use Prim.Native.Nat.{ℕ, zero, suc, ◌+◌}
 use native.Mathlib.Omega.{arith}
 use lib.Dec.{T, eqb}
 use lib.Seq.{slice}
-use Rattle.rows.specs.Kinds.{kinds}
-use Rattle.grammar.specs.Words.{literals, names, path_items, words}
+use Rattle.rows.specs.Kinds as kinds
+use Rattle.grammar.specs.Words.{close_brace, f_quote, literals, name, names, open_brace, path_items, underscore}
 use Rattle.grammar.specs.Grammar.{Ask, Parts, Stream, Symbol, Token, end, leaf, mark, node, note, one_of, phrase, same, text, token}
-use Rattle.grammar.specs.Kinds.{no_records, records, phrases}
+use Rattle.grammar.specs.Kinds.{AFTER_EXPR, AFTER_FOUR, AFTER_PATH, AND, AND_MORE, ARM, ARM_BODY, ARM_COMMA, ARM_NEXT, ARMS, ASSIGNED, BINARY, BLOCK, BRACES, BRACES_INSIDE, COMPARE, COMPARE_MORE, DECLARATION, DECLARATIONS, ELSE, ELSE_IF, ELSE_PART, EXPR, EXPRS, EXPRS_MORE, FIELD, FIELDS, FIELDS_MORE, FOUR, GUARD, HOLE, IMPORT, IMPORTED, IMPORTPATH, IMPORTPATH_DOT, IMPORTPATH_REST, IMPORTPATHS, IMPORTPATHS_MORE, LET, LET_TYPE, NAMES, NAMES_MORE, OPERAND, OR_MORE, PARAMS, PARENS, PATH, PATH_REST, PATTERN, POSTFIX, PRODUCT, PRODUCT_MORE, RESULT, RETURNED, STATEMENT, STATEMENTS, SUM, SUM_MORE, TREE, TYPE, TYPE_BASE, TYPE_BRACKETS, TYPE_MARKS, TYPED_NAME, TYPED_NAMES, TYPED_NAMES_MORE, TYPES, TYPES_MORE, VARIANT_NAMES, no_records, records}
 use Rattle.grammar.specs.Limits.{Counts}
 use Rattle.grammar.specs.Table.{a, one, word, opens, closes, row, rest_kinds, literal_row}
 use Rattle.grammar.specs.Rows.{Row, Item, own, child, end_of, Draft, count, children_of, sizes, sign_of, detail_for, literal_of_lem, row_of, add_row, take_note, is_text, text_row, add_token, write, blank, tree_row, rows_from, rows}
@@ -31,8 +31,6 @@ use Rattle.printing.specs.Spelled.{leaves}
 use Rattle.printing.proofs.Notes.{plain_note, plain_notes, plain_if, not_copied}
 use Rattle.printing.proofs.Texts.{grown_read}
 use Rattle.printing.proofs.ReadsBack.{grove_of}
-open words use {close-brace, f-quote, name, open-brace, underscore}
-open phrases use {AFTER-EXPR, AFTER-FOUR, AFTER-PATH, AND, AND-MORE, ARM, ARM-BODY, ARM-COMMA, ARM-NEXT, ARMS, ASSIGNED, BINARY, BLOCK, BRACES, BRACES-INSIDE, COMPARE, COMPARE-MORE, DECLARATION, DECLARATIONS, ELSE, ELSE-IF, ELSE-PART, EXPR, EXPRS, EXPRS-MORE, FIELD, FIELDS, FIELDS-MORE, FOUR, GUARD, HOLE, IMPORT, IMPORTED, IMPORTPATH, IMPORTPATH-DOT, IMPORTPATH-REST, IMPORTPATHS, IMPORTPATHS-MORE, LET, LET-TYPE, NAMES, NAMES-MORE, OPERAND, OR-MORE, PARAMS, PARENS, PATH, PATH-REST, PATTERN, POSTFIX, PRODUCT, PRODUCT-MORE, RESULT, RETURNED, STATEMENT, STATEMENTS, SUM, SUM-MORE, TREE, TYPE, TYPE-BASE, TYPE-BRACKETS, TYPE-MARKS, TYPED-NAME, TYPED-NAMES, TYPED-NAMES-MORE, TYPES, TYPES-MORE, VARIANT-NAMES}
 
 -- a row's label and how many children it has
 pub record Tag : Type 0 where
@@ -174,12 +172,12 @@ module _ (s : List ℕ) where
         is : bare_row r ≡ row_for h b.kids
         is = row_sim u.base k
 
-        words_of : (p : Bool) → one_of h.kind copied ≡ p → cond p (slice r.start (cond (eqb h.kind kinds.F-STRING) (r.end + 1) r.end) s) [] ≡ cond p (slice (starts (cond p b.read [])) (cond (eqb h.kind kinds.F-STRING) (ends (cond p b.read []) + 1) (ends (cond p b.read []))) s) []
-        words_of true e = let m = f e in ap (λ (i : ℕ). slice i (cond (eqb h.kind kinds.F-STRING) (r.end + 1) r.end) s) (row_start k d.items d.part ∙ m.0) ∙ ap (λ (i : ℕ). slice (starts b.read) (cond (eqb h.kind kinds.F-STRING) (i + 1) i) s) (row_end k d.items d.part ∙ m.1)
+        words_of : (p : Bool) → one_of h.kind copied ≡ p → cond p (slice r.start (cond (eqb h.kind kinds.F_STRING) (r.end + 1) r.end) s) [] ≡ cond p (slice (starts (cond p b.read [])) (cond (eqb h.kind kinds.F_STRING) (ends (cond p b.read []) + 1) (ends (cond p b.read []))) s) []
+        words_of true e = let m = f e in ap (λ (i : ℕ). slice i (cond (eqb h.kind kinds.F_STRING) (r.end + 1) r.end) s) (row_start k d.items d.part ∙ m.0) ∙ ap (λ (i : ℕ). slice (starts b.read) (cond (eqb h.kind kinds.F_STRING) (i + 1) i) s) (row_end k d.items d.part ∙ m.1)
         words_of false e = refl
 
         text_is : text_of s r ≡ bytes_of s h.kind h.tokens
-        text_is = ap (λ (n : ℕ). cond (one_of n copied) (slice r.start (cond (eqb n kinds.F-STRING) (r.end + 1) r.end) s) []) (ap (λ (o : Row). o.kind) is) ∙ words_of (one_of h.kind copied) refl
+        text_is = ap (λ (n : ℕ). cond (one_of n copied) (slice r.start (cond (eqb n kinds.F_STRING) (r.end + 1) r.end) s) []) (ap (λ (o : Row). o.kind) is) ∙ words_of (one_of h.kind copied) refl
 
         tag_is : ◌≡◌ {A = Tag} (record { label = label s r; children = r.children }) (record { label = label_of s h; children = width b.kids })
         tag_is = ap (λ (t : List ℕ). record { label = record { kind = r.kind; value = r.value; detail = r.detail; text = t }; children = r.children }) text_is ∙ ap (λ (o : Row). record { label = record { kind = o.kind; value = o.value; detail = o.detail; text = bytes_of s h.kind h.tokens }; children = o.children }) is
@@ -308,16 +306,16 @@ module _ (s : List ℕ) where
     hole_ends x x' y t e q true (all_phrase {a = r} {p = q'} w all_end) = closes_more x x' y t r e q' w.1
     hole_ends x x' y t e q false all_end = closes_last x x' y t e
 
-    hole_of : {p : Parts} → Of (opens open-brace ∷ phrase same (EXPR records) ∷ closes close-brace ∷ text HOLE ∷ []) p → Q HOLE (opens open-brace ∷ phrase same (EXPR records) ∷ closes close-brace ∷ text HOLE ∷ []) p
+    hole_of : {p : Parts} → Of (opens open_brace ∷ phrase same (EXPR records) ∷ closes close_brace ∷ text HOLE ∷ []) p → Q HOLE (opens open_brace ∷ phrase same (EXPR records) ∷ closes close_brace ∷ text HOLE ∷ []) p
     hole_of v = (keeps_all tt v, go v)
       where
-        go : {p : Parts} → Of (opens open-brace ∷ phrase same (EXPR records) ∷ closes close-brace ∷ text HOLE ∷ []) p → Closes p
+        go : {p : Parts} → Of (opens open_brace ∷ phrase same (EXPR records) ∷ closes close_brace ∷ text HOLE ∷ []) p → Closes p
         go (all_token {x = x} i y (all_phrase {a = t} {p = e} w (all_token {x = x'} i' y' (all_text {x = z} {p = q} k u)))) = hole_ends x x' z t e q (eqb z.word l.hole) u
 
     -- a string with expressions inside: from its quote to its last piece of text
-    text_last : (x y : Token) → is_text x ≡ false → Same (write (leaf x (leaf y (mark kinds.F-STRING end))) blank) (grow (leaf x (leaf y (mark kinds.F-STRING end))) fresh)
+    text_last : (x y : Token) → is_text x ≡ false → Same (write (leaf x (leaf y (mark kinds.F_STRING end))) blank) (grow (leaf x (leaf y (mark kinds.F_STRING end))) fresh)
     unfolding write grow
-    text_last x y t = note_same (token_same (token_same blank_same x) y) kinds.F-STRING (λ e. (ap item.starts are ∙ sym (ap starts have), ap item.ends are ∙ ends_last (own x ∷ []) i.0 ∙ i.2 ∙ sym (ap ends have)))
+    text_last x y t = note_same (token_same (token_same blank_same x) y) kinds.F_STRING (λ e. (ap item.starts are ∙ sym (ap starts have), ap item.ends are ∙ ends_last (own x ∷ []) i.0 ∙ i.2 ∙ sym (ap ends have)))
       where
         i : (j : Item) × ((add_token y (add_token x blank)).items ≡ (add_token x blank).items ++ (j ∷ [])) × (end_of j ≡ y.end)
         i = item_of y (add_token x blank)
@@ -328,9 +326,9 @@ module _ (s : List ℕ) where
         have : (add y (add x fresh)).read ≡ x ∷ y ∷ []
         have = grown_read (leaf x (leaf y end)) fresh
 
-    text_hole : (x y : Token) (r : List Symbol) (q : Parts) → is_text x ≡ false → Keeps true q → Closes q → Same (write (leaf x (leaf y (node HOLE r q (mark kinds.F-STRING end)))) blank) (grow (leaf x (leaf y (node HOLE r q (mark kinds.F-STRING end)))) fresh)
+    text_hole : (x y : Token) (r : List Symbol) (q : Parts) → is_text x ≡ false → Keeps true q → Closes q → Same (write (leaf x (leaf y (node HOLE r q (mark kinds.F_STRING end)))) blank) (grow (leaf x (leaf y (node HOLE r q (mark kinds.F_STRING end)))) fresh)
     unfolding write grow
-    text_hole x y r q t k c = note_same (k d (add y (add x fresh)) (token_same (token_same blank_same x) y)) kinds.F-STRING (λ e. (ap item.starts are ∙ sym (ap starts have), ap item.ends are ∙ ends_last (((own x ∷ []) ++ (i.0 ∷ [])) ++ c.before d) (c.last d) ∙ c.ends_there d ∙ sym (ap ends have ∙ last_end (x ∷ y ∷ c.earlier) c.final)))
+    text_hole x y r q t k c = note_same (k d (add y (add x fresh)) (token_same (token_same blank_same x) y)) kinds.F_STRING (λ e. (ap item.starts are ∙ sym (ap starts have), ap item.ends are ∙ ends_last (((own x ∷ []) ++ (i.0 ∷ [])) ++ c.before d) (c.last d) ∙ c.ends_there d ∙ sym (ap ends have ∙ last_end (x ∷ y ∷ c.earlier) c.final)))
       where
         d : Draft
         d = add_token y (add_token x blank)
@@ -344,12 +342,12 @@ module _ (s : List ℕ) where
         have : (grow q (add y (add x fresh))).read ≡ (x ∷ y ∷ c.earlier) ++ (c.final ∷ [])
         have = grown_read q (add y (add x fresh)) ∙ ap (λ (z : List Token). z ++ leaves q) (grown_read (leaf x (leaf y end)) fresh) ∙ ap (λ (z : List Token). x ∷ y ∷ z) c.tokens
 
-    text_ends : (x y : Token) (q : Parts) (b : Bool) → is_text x ≡ false → Of (cond b (phrase same HOLE ∷ row kinds.F-STRING ∷ []) (row kinds.F-STRING ∷ [])) q → Same (write (leaf x (leaf y q)) blank) (grow (leaf x (leaf y q)) fresh)
+    text_ends : (x y : Token) (q : Parts) (b : Bool) → is_text x ≡ false → Of (cond b (phrase same HOLE ∷ row kinds.F_STRING ∷ []) (row kinds.F_STRING ∷ [])) q → Same (write (leaf x (leaf y q)) blank) (grow (leaf x (leaf y q)) fresh)
     text_ends x y q true t (all_phrase {a = r} {p = q'} w (all_note all_end)) = text_hole x y r q' t w.0 w.1
     text_ends x y q false t (all_note all_end) = text_last x y t
 
-    quoted_of : {p : Parts} → Of (word f-quote ∷ text HOLE ∷ row kinds.F-STRING ∷ []) p → Keeps false p × Unit {0}
-    quoted_of (all_token {x = x} i y (all_text {x = z} {p = q} k u)) = (text_ends x z q (eqb z.word l.hole) (plain_word x (f-quote ∷ []) tt i) u, tt)
+    quoted_of : {p : Parts} → Of (word f_quote ∷ text HOLE ∷ row kinds.F_STRING ∷ []) p → Keeps false p × Unit {0}
+    quoted_of (all_token {x = x} i y (all_text {x = z} {p = q} k u)) = (text_ends x z q (eqb z.word l.hole) (plain_word x (f_quote ∷ []) tt i) u, tt)
 
     abbrev C : ℕ → List Symbol → Type 0
     C n t = (p : Parts) → Once S l G Any Q t p → Of t p → Q n t p
@@ -357,25 +355,25 @@ module _ (s : List ℕ) where
     each : Rules C (roto true).rules
     unfolding roto
     each = (
-      (λ p o h. plain_of TYPED-NAMES tt tt h, (λ p o h. plain_of TYPED-NAMES tt tt h, tt)),
+      (λ p o h. plain_of TYPED_NAMES tt tt h, (λ p o h. plain_of TYPED_NAMES tt tt h, tt)),
       (
-        (λ p o h. plain_of TYPED-NAMES-MORE tt tt h, (λ p o h. plain_of TYPED-NAMES-MORE tt tt h, tt)),
+        (λ p o h. plain_of TYPED_NAMES_MORE tt tt h, (λ p o h. plain_of TYPED_NAMES_MORE tt tt h, tt)),
         (
           (λ p o h. plain_of TYPES tt tt h, (λ p o h. plain_of TYPES tt tt h, tt)),
           (
-            (λ p o h. plain_of TYPES-MORE tt tt h, (λ p o h. plain_of TYPES-MORE tt tt h, tt)),
+            (λ p o h. plain_of TYPES_MORE tt tt h, (λ p o h. plain_of TYPES_MORE tt tt h, tt)),
             (
               (λ p o h. plain_of EXPRS tt tt h, (λ p o h. plain_of EXPRS tt tt h, tt)),
               (
-                (λ p o h. plain_of EXPRS-MORE tt tt h, (λ p o h. plain_of EXPRS-MORE tt tt h, tt)),
+                (λ p o h. plain_of EXPRS_MORE tt tt h, (λ p o h. plain_of EXPRS_MORE tt tt h, tt)),
                 (
                   (λ p o h. plain_of FIELDS tt tt h, (λ p o h. plain_of FIELDS tt tt h, tt)),
                   (
-                    (λ p o h. plain_of FIELDS-MORE tt tt h, (λ p o h. plain_of FIELDS-MORE tt tt h, tt)),
+                    (λ p o h. plain_of FIELDS_MORE tt tt h, (λ p o h. plain_of FIELDS_MORE tt tt h, tt)),
                     (
                       (λ p o h. plain_of NAMES tt tt h, (λ p o h. plain_of NAMES tt tt h, tt)),
                       (
-                        (λ p o h. plain_of NAMES-MORE tt tt h, (λ p o h. plain_of NAMES-MORE tt tt h, tt)),
+                        (λ p o h. plain_of NAMES_MORE tt tt h, (λ p o h. plain_of NAMES_MORE tt tt h, tt)),
                         (
                           (λ p o h. plain_of TREE tt tt h, tt),
                           (
@@ -387,7 +385,7 @@ module _ (s : List ℕ) where
                                 (
                                   (λ p o h. plain_of RESULT tt tt h, (λ p o h. plain_of RESULT tt tt h, tt)),
                                   (
-                                    (λ p o h. plain_of TYPED-NAME tt tt h, tt),
+                                    (λ p o h. plain_of TYPED_NAME tt tt h, tt),
                                     (
                                       (λ p o h. leaf_of names tt h, tt),
                                       (
@@ -397,27 +395,27 @@ module _ (s : List ℕ) where
                                           (
                                             (λ p o h. plain_of IMPORTPATH tt tt h, tt),
                                             (
-                                              (λ p o h. plain_of IMPORTPATH-REST tt tt h, (λ p o h. plain_of IMPORTPATH-REST tt tt h, tt)),
+                                              (λ p o h. plain_of IMPORTPATH_REST tt tt h, (λ p o h. plain_of IMPORTPATH_REST tt tt h, tt)),
                                               (
-                                                (λ p o h. plain_of IMPORTPATH-DOT tt tt h, (λ p o h. plain_of IMPORTPATH-DOT tt tt h, tt)),
+                                                (λ p o h. plain_of IMPORTPATH_DOT tt tt h, (λ p o h. plain_of IMPORTPATH_DOT tt tt h, tt)),
                                                 (
                                                   (λ p o h. plain_of IMPORTPATHS tt tt h, tt),
                                                   (
-                                                    (λ p o h. plain_of IMPORTPATHS-MORE tt tt h, (λ p o h. plain_of IMPORTPATHS-MORE tt tt h, tt)),
+                                                    (λ p o h. plain_of IMPORTPATHS_MORE tt tt h, (λ p o h. plain_of IMPORTPATHS_MORE tt tt h, tt)),
                                                     (
                                                       (λ p o h. leaf_of path_items tt h, tt),
                                                       (
                                                         (λ p o h. plain_of PATH tt tt h, tt),
                                                         (
-                                                          (λ p o h. plain_of PATH-REST tt tt h, (λ p o h. plain_of PATH-REST tt tt h, tt)),
+                                                          (λ p o h. plain_of PATH_REST tt tt h, (λ p o h. plain_of PATH_REST tt tt h, tt)),
                                                           (
                                                             (λ p o h. plain_of TYPE tt tt h, tt),
                                                             (
-                                                              (λ p o h. plain_of TYPE-MARKS tt tt h, (λ p o h. plain_of TYPE-MARKS tt tt h, tt)),
+                                                              (λ p o h. plain_of TYPE_MARKS tt tt h, (λ p o h. plain_of TYPE_MARKS tt tt h, tt)),
                                                               (
-                                                                (λ p o h. plain_of TYPE-BASE tt tt h, (λ p o h. plain_of TYPE-BASE tt tt h, (λ p o h. plain_of TYPE-BASE tt tt h, (λ p o h. plain_of TYPE-BASE tt tt h, tt)))),
+                                                                (λ p o h. plain_of TYPE_BASE tt tt h, (λ p o h. plain_of TYPE_BASE tt tt h, (λ p o h. plain_of TYPE_BASE tt tt h, (λ p o h. plain_of TYPE_BASE tt tt h, tt)))),
                                                                 (
-                                                                  (λ p o h. plain_of TYPE-BRACKETS tt tt h, (λ p o h. plain_of TYPE-BRACKETS tt tt h, tt)),
+                                                                  (λ p o h. plain_of TYPE_BRACKETS tt tt h, (λ p o h. plain_of TYPE_BRACKETS tt tt h, tt)),
                                                                   (
                                                                     (λ p o h. plain_of BLOCK tt tt h, tt),
                                                                     (
@@ -425,13 +423,13 @@ module _ (s : List ℕ) where
                                                                       (
                                                                         (λ p o h. plain_of STATEMENT tt tt h, (λ p o h. plain_of STATEMENT tt tt h, (λ p o h. plain_of STATEMENT tt tt h, (λ p o h. plain_of STATEMENT tt tt h, tt)))),
                                                                         (
-                                                                          (λ p o h. plain_of AFTER-FOUR tt tt h, (λ p o h. plain_of AFTER-FOUR tt tt h, (λ p o h. plain_of AFTER-FOUR tt tt h, tt))),
+                                                                          (λ p o h. plain_of AFTER_FOUR tt tt h, (λ p o h. plain_of AFTER_FOUR tt tt h, (λ p o h. plain_of AFTER_FOUR tt tt h, tt))),
                                                                           (
-                                                                            (λ p o h. plain_of AFTER-EXPR tt tt h, (λ p o h. plain_of AFTER-EXPR tt tt h, tt)),
+                                                                            (λ p o h. plain_of AFTER_EXPR tt tt h, (λ p o h. plain_of AFTER_EXPR tt tt h, tt)),
                                                                             (
                                                                               (λ p o h. plain_of LET tt tt h, tt),
                                                                               (
-                                                                                (λ p o h. plain_of LET-TYPE tt tt h, (λ p o h. plain_of LET-TYPE tt tt h, tt)),
+                                                                                (λ p o h. plain_of LET_TYPE tt tt h, (λ p o h. plain_of LET_TYPE tt tt h, tt)),
                                                                                 (
                                                                                   (λ p o h. plain_of (EXPR records) tt tt h, (λ p o h. plain_of (EXPR records) tt tt h, tt)),
                                                                                   (
@@ -441,29 +439,29 @@ module _ (s : List ℕ) where
                                                                                       (
                                                                                         (λ p o h. plain_of (BINARY records) tt tt h, tt),
                                                                                         (
-                                                                                          (λ p o h. plain_of (OR-MORE records) tt tt h, (λ p o h. plain_of (OR-MORE records) tt tt h, tt)),
+                                                                                          (λ p o h. plain_of (OR_MORE records) tt tt h, (λ p o h. plain_of (OR_MORE records) tt tt h, tt)),
                                                                                           (
                                                                                             (λ p o h. plain_of (AND records) tt tt h, tt),
                                                                                             (
-                                                                                              (λ p o h. plain_of (AND-MORE records) tt tt h, (λ p o h. plain_of (AND-MORE records) tt tt h, tt)),
+                                                                                              (λ p o h. plain_of (AND_MORE records) tt tt h, (λ p o h. plain_of (AND_MORE records) tt tt h, tt)),
                                                                                               (
                                                                                                 (λ p o h. plain_of (COMPARE records) tt tt h, tt),
                                                                                                 (
-                                                                                                  (λ p o h. plain_of (COMPARE-MORE records) tt tt h, (λ p o h. plain_of (COMPARE-MORE records) tt tt h, tt)),
+                                                                                                  (λ p o h. plain_of (COMPARE_MORE records) tt tt h, (λ p o h. plain_of (COMPARE_MORE records) tt tt h, tt)),
                                                                                                   (
                                                                                                     (λ p o h. plain_of (SUM records) tt tt h, tt),
                                                                                                     (
-                                                                                                      (λ p o h. plain_of (SUM-MORE records) tt tt h, (λ p o h. plain_of (SUM-MORE records) tt tt h, tt)),
+                                                                                                      (λ p o h. plain_of (SUM_MORE records) tt tt h, (λ p o h. plain_of (SUM_MORE records) tt tt h, tt)),
                                                                                                       (
                                                                                                         (λ p o h. plain_of (PRODUCT records) tt tt h, tt),
                                                                                                         (
-                                                                                                          (λ p o h. plain_of (PRODUCT-MORE records) tt tt h, (λ p o h. plain_of (PRODUCT-MORE records) tt tt h, tt)),
+                                                                                                          (λ p o h. plain_of (PRODUCT_MORE records) tt tt h, (λ p o h. plain_of (PRODUCT_MORE records) tt tt h, tt)),
                                                                                                           (
                                                                                                             (λ p o h. plain_of (OPERAND records) tt tt h, (λ p o h. plain_of (OPERAND records) tt tt h, (λ p o h. plain_of (OPERAND records) tt tt h, (λ p o h. plain_of (OPERAND records) tt tt h, (λ p o h. plain_of (OPERAND records) tt tt h, (λ p o h. plain_of (OPERAND records) tt tt h, (λ p o h. plain_of (OPERAND records) tt tt h, (λ p o h. plain_of (OPERAND records) tt tt h, tt)))))))),
                                                                                                             (
                                                                                                               (λ p o h. plain_of (POSTFIX records) tt tt h, (λ p o h. plain_of (POSTFIX records) tt tt h, (λ p o h. plain_of (POSTFIX records) tt tt h, (λ p o h. plain_of (POSTFIX records) tt tt h, tt)))),
                                                                                                               (
-                                                                                                                (λ p o h. plain_of (AFTER-PATH records) tt tt h, (λ p o h. plain_of (AFTER-PATH records) tt tt h, (λ p o h. plain_of (AFTER-PATH records) tt tt h, (λ p o h. plain_of (AFTER-PATH records) tt tt h, tt)))),
+                                                                                                                (λ p o h. plain_of (AFTER_PATH records) tt tt h, (λ p o h. plain_of (AFTER_PATH records) tt tt h, (λ p o h. plain_of (AFTER_PATH records) tt tt h, (λ p o h. plain_of (AFTER_PATH records) tt tt h, tt)))),
                                                                                                                 (
                                                                                                                   (λ p o h. plain_of (EXPR no_records) tt tt h, (λ p o h. plain_of (EXPR no_records) tt tt h, tt)),
                                                                                                                   (
@@ -473,29 +471,29 @@ module _ (s : List ℕ) where
                                                                                                                       (
                                                                                                                         (λ p o h. plain_of (BINARY no_records) tt tt h, tt),
                                                                                                                         (
-                                                                                                                          (λ p o h. plain_of (OR-MORE no_records) tt tt h, (λ p o h. plain_of (OR-MORE no_records) tt tt h, tt)),
+                                                                                                                          (λ p o h. plain_of (OR_MORE no_records) tt tt h, (λ p o h. plain_of (OR_MORE no_records) tt tt h, tt)),
                                                                                                                           (
                                                                                                                             (λ p o h. plain_of (AND no_records) tt tt h, tt),
                                                                                                                             (
-                                                                                                                              (λ p o h. plain_of (AND-MORE no_records) tt tt h, (λ p o h. plain_of (AND-MORE no_records) tt tt h, tt)),
+                                                                                                                              (λ p o h. plain_of (AND_MORE no_records) tt tt h, (λ p o h. plain_of (AND_MORE no_records) tt tt h, tt)),
                                                                                                                               (
                                                                                                                                 (λ p o h. plain_of (COMPARE no_records) tt tt h, tt),
                                                                                                                                 (
-                                                                                                                                  (λ p o h. plain_of (COMPARE-MORE no_records) tt tt h, (λ p o h. plain_of (COMPARE-MORE no_records) tt tt h, tt)),
+                                                                                                                                  (λ p o h. plain_of (COMPARE_MORE no_records) tt tt h, (λ p o h. plain_of (COMPARE_MORE no_records) tt tt h, tt)),
                                                                                                                                   (
                                                                                                                                     (λ p o h. plain_of (SUM no_records) tt tt h, tt),
                                                                                                                                     (
-                                                                                                                                      (λ p o h. plain_of (SUM-MORE no_records) tt tt h, (λ p o h. plain_of (SUM-MORE no_records) tt tt h, tt)),
+                                                                                                                                      (λ p o h. plain_of (SUM_MORE no_records) tt tt h, (λ p o h. plain_of (SUM_MORE no_records) tt tt h, tt)),
                                                                                                                                       (
                                                                                                                                         (λ p o h. plain_of (PRODUCT no_records) tt tt h, tt),
                                                                                                                                         (
-                                                                                                                                          (λ p o h. plain_of (PRODUCT-MORE no_records) tt tt h, (λ p o h. plain_of (PRODUCT-MORE no_records) tt tt h, tt)),
+                                                                                                                                          (λ p o h. plain_of (PRODUCT_MORE no_records) tt tt h, (λ p o h. plain_of (PRODUCT_MORE no_records) tt tt h, tt)),
                                                                                                                                           (
                                                                                                                                             (λ p o h. plain_of (OPERAND no_records) tt tt h, (λ p o h. plain_of (OPERAND no_records) tt tt h, (λ p o h. plain_of (OPERAND no_records) tt tt h, (λ p o h. plain_of (OPERAND no_records) tt tt h, (λ p o h. plain_of (OPERAND no_records) tt tt h, (λ p o h. plain_of (OPERAND no_records) tt tt h, (λ p o h. plain_of (OPERAND no_records) tt tt h, (λ p o h. plain_of (OPERAND no_records) tt tt h, tt)))))))),
                                                                                                                                             (
                                                                                                                                               (λ p o h. plain_of (POSTFIX no_records) tt tt h, (λ p o h. plain_of (POSTFIX no_records) tt tt h, (λ p o h. plain_of (POSTFIX no_records) tt tt h, (λ p o h. plain_of (POSTFIX no_records) tt tt h, tt)))),
                                                                                                                                               (
-                                                                                                                                                (λ p o h. plain_of (AFTER-PATH no_records) tt tt h, (λ p o h. plain_of (AFTER-PATH no_records) tt tt h, (λ p o h. plain_of (AFTER-PATH no_records) tt tt h, tt))),
+                                                                                                                                                (λ p o h. plain_of (AFTER_PATH no_records) tt tt h, (λ p o h. plain_of (AFTER_PATH no_records) tt tt h, (λ p o h. plain_of (AFTER_PATH no_records) tt tt h, tt))),
                                                                                                                                                 (
                                                                                                                                                   (λ p o h. leaf_of literals tt h, tt),
                                                                                                                                                   (
@@ -507,7 +505,7 @@ module _ (s : List ℕ) where
                                                                                                                                                         (
                                                                                                                                                           (λ p o h. plain_of BRACES tt tt h, tt),
                                                                                                                                                           (
-                                                                                                                                                            (λ p o h. plain_of BRACES-INSIDE tt tt h, (λ p o h. plain_of BRACES-INSIDE tt tt h, tt)),
+                                                                                                                                                            (λ p o h. plain_of BRACES_INSIDE tt tt h, (λ p o h. plain_of BRACES_INSIDE tt tt h, tt)),
                                                                                                                                                             (
                                                                                                                                                               (λ p o h. plain_of FIELD tt tt h, tt),
                                                                                                                                                               (
@@ -517,19 +515,19 @@ module _ (s : List ℕ) where
                                                                                                                                                                   (
                                                                                                                                                                     (λ p o h. plain_of ELSE tt tt h, (λ p o h. plain_of ELSE tt tt h, tt)),
                                                                                                                                                                     (
-                                                                                                                                                                      (λ p o h. plain_of ELSE-PART tt tt h, (λ p o h. plain_of ELSE-PART tt tt h, tt)),
+                                                                                                                                                                      (λ p o h. plain_of ELSE_PART tt tt h, (λ p o h. plain_of ELSE_PART tt tt h, tt)),
                                                                                                                                                                       (
-                                                                                                                                                                        (λ p o h. plain_of ELSE-IF tt tt h, tt),
+                                                                                                                                                                        (λ p o h. plain_of ELSE_IF tt tt h, tt),
                                                                                                                                                                         (
                                                                                                                                                                           (λ p o h. plain_of ARMS tt tt h, (λ p o h. plain_of ARMS tt tt h, tt)),
                                                                                                                                                                           (
                                                                                                                                                                             (λ p o h. plain_of ARM tt tt h, tt),
                                                                                                                                                                             (
-                                                                                                                                                                              (λ p o h. plain_of ARM-BODY tt tt h, (λ p o h. plain_of ARM-BODY tt tt h, tt)),
+                                                                                                                                                                              (λ p o h. plain_of ARM_BODY tt tt h, (λ p o h. plain_of ARM_BODY tt tt h, tt)),
                                                                                                                                                                               (
-                                                                                                                                                                                (λ p o h. plain_of ARM-NEXT tt tt h, (λ p o h. plain_of ARM-NEXT tt tt h, tt)),
+                                                                                                                                                                                (λ p o h. plain_of ARM_NEXT tt tt h, (λ p o h. plain_of ARM_NEXT tt tt h, tt)),
                                                                                                                                                                                 (
-                                                                                                                                                                                  (λ p o h. plain_of ARM-COMMA tt tt h, (λ p o h. plain_of ARM-COMMA tt tt h, tt)),
+                                                                                                                                                                                  (λ p o h. plain_of ARM_COMMA tt tt h, (λ p o h. plain_of ARM_COMMA tt tt h, tt)),
                                                                                                                                                                                   (
                                                                                                                                                                                     (λ p o h. plain_of GUARD tt tt h, (λ p o h. plain_of GUARD tt tt h, tt)),
                                                                                                                                                                                     (
@@ -537,7 +535,7 @@ module _ (s : List ℕ) where
                                                                                                                                                                                       (
                                                                                                                                                                                         (λ p o h. leaf_of (name ∷ []) tt h, tt),
                                                                                                                                                                                         (
-                                                                                                                                                                                          (λ p o h. plain_of VARIANT-NAMES tt tt h, (λ p o h. plain_of VARIANT-NAMES tt tt h, tt)),
+                                                                                                                                                                                          (λ p o h. plain_of VARIANT_NAMES tt tt h, (λ p o h. plain_of VARIANT_NAMES tt tt h, tt)),
                                                                                                                                                                                           tt,
                                                                                                                                                                                         ),
                                                                                                                                                                                       ),

@@ -6,26 +6,24 @@ use Prim.Native.Nat.{ℕ, zero, suc, ◌≤◌}
 use native.Mathlib.Omega.{arith}
 use lib.Dec.{T, eqb, eqb→eq}
 use borrow.Author.Tests.{eqb-false}
-use Rattle.grammar.specs.Words.{words}
+use Rattle.grammar.specs.Words.{close_paren, open_paren}
 use Rattle.grammar.specs.Grammar.{Parts, Token, end, here, leaf, node, phrase, same}
-use Rattle.grammar.specs.Kinds.{records, phrases}
+use Rattle.grammar.specs.Kinds.{AFTER_PATH, AND, AND_MORE, ASSIGNED, BINARY, COMPARE, EXPR, OPERAND, OR_MORE, PARENS, POSTFIX, PRODUCT, PRODUCT_MORE, SUM, SUM_MORE, records}
 use Rattle.grammar.specs.Readings.{reads_end, reads_phrase, reads_side, reads_token}
 use Rattle.grammar.specs.Language.{roto}
 use Rattle.printing.specs.Groves.{Grove, State, fresh, grow, pairs, token_of}
 use Rattle.printing.proofs.Lists.{Read, Rest, Whole, chain, grow_phrase, grow_rest, in_chain_and, in_chain_compare, in_chain_or, in_chain_product, in_chain_sum, in_no_after, in_no_and, in_no_assigned, in_no_compare, in_no_or, in_no_postfix, in_no_product, in_no_sum, in_pair, in_side, l, more_and_more, more_assigned, more_compare_more, more_or_more, more_postfix, more_product_more, more_sum_more, none, own_and, own_binary, own_compare, own_operand, own_product, own_sum}
-open words use {close-paren, open-paren}
-open phrases use {AFTER-PATH, AND, AND-MORE, ASSIGNED, BINARY, COMPARE, EXPR, OPERAND, OR-MORE, PARENS, POSTFIX, PRODUCT, PRODUCT-MORE, SUM, SUM-MORE}
 
 -- The tokens `f y` are a phrase of the level, with y behind: what follows of a chain is handed in.
 abbrev pub Level : ℕ → Bool → (List Token → List Token) → Grove → Type 0
 Level zero r f g = (y : List Token) → Whole (EXPR r) (f y) y g
-Level (suc zero) r f g = (y z : List Token) (g' : Grove) → Rest (OR-MORE r) y z g g' → Whole (BINARY r) (f y) z g'
-Level (suc (suc zero)) r f g = (y z : List Token) (g' : Grove) → Rest (AND-MORE r) y z g g' → Whole (AND r) (f y) z g'
+Level (suc zero) r f g = (y z : List Token) (g' : Grove) → Rest (OR_MORE r) y z g g' → Whole (BINARY r) (f y) z g'
+Level (suc (suc zero)) r f g = (y z : List Token) (g' : Grove) → Rest (AND_MORE r) y z g g' → Whole (AND r) (f y) z g'
 Level (suc (suc (suc zero))) r f g = (y : List Token) → Whole (COMPARE r) (f y) y g
-Level (suc (suc (suc (suc zero)))) r f g = (y z : List Token) (g' : Grove) → Rest (SUM-MORE r) y z g g' → Whole (SUM r) (f y) z g'
-Level (suc (suc (suc (suc (suc zero))))) r f g = (y z : List Token) (g' : Grove) → Rest (PRODUCT-MORE r) y z g g' → Whole (PRODUCT r) (f y) z g'
+Level (suc (suc (suc (suc zero)))) r f g = (y z : List Token) (g' : Grove) → Rest (SUM_MORE r) y z g g' → Whole (SUM r) (f y) z g'
+Level (suc (suc (suc (suc (suc zero))))) r f g = (y z : List Token) (g' : Grove) → Rest (PRODUCT_MORE r) y z g g' → Whole (PRODUCT r) (f y) z g'
 Level (suc (suc (suc (suc (suc (suc zero)))))) r f g = (y : List Token) → Whole (OPERAND r) (f y) y g
-Level (suc (suc (suc (suc (suc (suc (suc zero))))))) r f g = (y z : List Token) (g' : Grove) → Rest (POSTFIX r) y z g g' → Rest (AFTER-PATH r) y z g g' → Whole (OPERAND r) (f y) z g'
+Level (suc (suc (suc (suc (suc (suc (suc zero))))))) r f g = (y z : List Token) (g' : Grove) → Rest (POSTFIX r) y z g g' → Rest (AFTER_PATH r) y z g g' → Whole (OPERAND r) (f y) z g'
 Level (suc (suc (suc (suc (suc (suc (suc (suc n)))))))) r f g = (y z : List Token) (g' : Grove) → Rest (POSTFIX r) y z g g' → Whole (OPERAND r) (f y) z g'
 
 -- behind an expr's first phrase nothing is assigned, whether it is a path or not
@@ -68,18 +66,18 @@ climb (suc n) k r f g h u = go (eqb k (suc n)) refl (λ i. climb n k r f g i (cl
     go false e v = v (below (eqb-false k (suc n) e))
 
 -- a pair round an expr
-pub parens : {c z : List Token} {g : Grove} → Whole (EXPR records) c (token_of close-paren ∷ z) g → Whole PARENS (token_of open-paren ∷ c) z g
+pub parens : {c z : List Token} {g : Grove} → Whole (EXPR records) c (token_of close_paren ∷ z) g → Whole PARENS (token_of open_paren ∷ c) z g
 unfolding roto grow
 parens u = record {
   alt = _;
   takes = here;
-  parts = leaf (token_of open-paren) (node (EXPR records) u.alt u.parts (leaf (token_of close-paren) end));
+  parts = leaf (token_of open_paren) (node (EXPR records) u.alt u.parts (leaf (token_of close_paren) end));
   reads = λ d. reads_token refl tt tt (reads_phrase u.takes (u.reads _) (reads_token refl tt tt reads_end));
   leaves = u.leaves;
 }
 
-pub pair : (r : Bool) (f : List Token → List Token) (g : Grove) → Level 0 records f g → Level 8 r (λ y. token_of open-paren ∷ f (token_of close-paren ∷ y)) g
-pair r f g u y z g' v = chain (in_pair r) refl (more_postfix r) (parens (u (token_of close-paren ∷ y))) v
+pub pair : (r : Bool) (f : List Token → List Token) (g : Grove) → Level 0 records f g → Level 8 r (λ y. token_of open_paren ∷ f (token_of close_paren ∷ y)) g
+pair r f g u y z g' v = chain (in_pair r) refl (more_postfix r) (parens (u (token_of close_paren ∷ y))) v
 
 pub in_more_pairs : (n : ℕ) (r : Bool) (f : List Token → List Token) (g : Grove) → Level 0 records f g → Level 8 r (pairs (suc n) f) g
 in_more_pairs zero r f g u = pair r f g u

@@ -4,10 +4,10 @@ use mathlib.Core.List.{List, [], ◌∷◌}
 use mathlib.Core.Bool.{Bool, false, not, true}
 use Prim.Native.Nat.{ℕ}
 use lib.Dec.{T, eqb}
-use Rattle.rows.specs.Kinds.{kinds}
-use Rattle.grammar.specs.Words.{binary_signs, compare_signs, product_signs, sum_signs, words}
+use Rattle.rows.specs.Kinds as kinds
+use Rattle.grammar.specs.Words.{'&&', '||', binary_signs, compare_signs, product_signs, sum_signs}
 use Rattle.grammar.specs.Grammar.{Ask, In, Language, Parts, Scope, Symbol, Token, alternatives, closes_bracket, end, has_value, here, is_else_if, is_head, is_prefix, leaf, left_side, mark, node, note, one_of, opens_bracket, phrase, plain, same, there, token, unless}
-use Rattle.grammar.specs.Kinds.{phrases}
+use Rattle.grammar.specs.Kinds.{AFTER_PATH, AND, AND_MORE, ASSIGNED, BINARY, COMPARE, COMPARE_MORE, EXPR, OPERAND, OR_MORE, PARENS, POSTFIX, PRODUCT, PRODUCT_MORE, RETURNED, SUM, SUM_MORE}
 use Rattle.grammar.specs.Limits.{Counts}
 use Rattle.grammar.specs.Readings.{ReadingBy, peek, reads_end, reads_note, reads_phrase, reads_token, reads_unless}
 use Rattle.grammar.specs.Table.{one, row, rest_kinds, literal_row}
@@ -16,8 +16,6 @@ use Rattle.grammar.specs.Language.{roto}
 use Rattle.grammar.specs.Culprit.{lists}
 use Rattle.canon.specs.Trees.{copied}
 use Rattle.printing.specs.Groves.{Grove, State, beside, fresh, grow, leave, nil, noted, sign_in, signed, top, with_word}
-open words use {'&&', '||'}
-open phrases use {AFTER-PATH, AND, AND-MORE, ASSIGNED, BINARY, COMPARE, COMPARE-MORE, EXPR, OPERAND, OR-MORE, PARENS, POSTFIX, PRODUCT, PRODUCT-MORE, RETURNED, SUM, SUM-MORE}
 
 abbrev pub l : Language
 l = roto true
@@ -91,23 +89,23 @@ pub more_assigned : (r : Bool) → one_of (ASSIGNED r) rest_kinds ≡ true
 more_assigned true = refl
 more_assigned false = refl
 
-pub more_or_more : (r : Bool) → one_of (OR-MORE r) rest_kinds ≡ true
+pub more_or_more : (r : Bool) → one_of (OR_MORE r) rest_kinds ≡ true
 more_or_more true = refl
 more_or_more false = refl
 
-pub more_and_more : (r : Bool) → one_of (AND-MORE r) rest_kinds ≡ true
+pub more_and_more : (r : Bool) → one_of (AND_MORE r) rest_kinds ≡ true
 more_and_more true = refl
 more_and_more false = refl
 
-pub more_compare_more : (r : Bool) → one_of (COMPARE-MORE r) rest_kinds ≡ true
+pub more_compare_more : (r : Bool) → one_of (COMPARE_MORE r) rest_kinds ≡ true
 more_compare_more true = refl
 more_compare_more false = refl
 
-pub more_sum_more : (r : Bool) → one_of (SUM-MORE r) rest_kinds ≡ true
+pub more_sum_more : (r : Bool) → one_of (SUM_MORE r) rest_kinds ≡ true
 more_sum_more true = refl
 more_sum_more false = refl
 
-pub more_product_more : (r : Bool) → one_of (PRODUCT-MORE r) rest_kinds ≡ true
+pub more_product_more : (r : Bool) → one_of (PRODUCT_MORE r) rest_kinds ≡ true
 more_product_more true = refl
 more_product_more false = refl
 
@@ -115,81 +113,81 @@ pub more_postfix : (r : Bool) → one_of (POSTFIX r) rest_kinds ≡ true
 more_postfix true = refl
 more_postfix false = refl
 
-pub more_after_path : (r : Bool) → one_of (AFTER-PATH r) rest_kinds ≡ true
+pub more_after_path : (r : Bool) → one_of (AFTER_PATH r) rest_kinds ≡ true
 more_after_path true = refl
 more_after_path false = refl
 
-pub in_chain_or : (r : Bool) → In (phrase same (AND r) ∷ phrase same (OR-MORE r) ∷ []) (alternatives l (BINARY r))
+pub in_chain_or : (r : Bool) → In (phrase same (AND r) ∷ phrase same (OR_MORE r) ∷ []) (alternatives l (BINARY r))
 unfolding roto
 in_chain_or true = here
 in_chain_or false = here
 
-pub in_no_or : (r : Bool) → In ([]) (alternatives l (OR-MORE r))
+pub in_no_or : (r : Bool) → In ([]) (alternatives l (OR_MORE r))
 unfolding roto
 in_no_or true = here
 in_no_or false = here
 
-pub in_more_or : (r : Bool) → In (one ('||' ∷ []) ∷ phrase same (AND r) ∷ row kinds.BINARY ∷ phrase same (OR-MORE r) ∷ []) (alternatives l (OR-MORE r))
+pub in_more_or : (r : Bool) → In (one ('||' ∷ []) ∷ phrase same (AND r) ∷ row kinds.BINARY ∷ phrase same (OR_MORE r) ∷ []) (alternatives l (OR_MORE r))
 unfolding roto
 in_more_or true = there here
 in_more_or false = there here
 
-pub in_chain_and : (r : Bool) → In (phrase same (COMPARE r) ∷ phrase same (AND-MORE r) ∷ []) (alternatives l (AND r))
+pub in_chain_and : (r : Bool) → In (phrase same (COMPARE r) ∷ phrase same (AND_MORE r) ∷ []) (alternatives l (AND r))
 unfolding roto
 in_chain_and true = here
 in_chain_and false = here
 
-pub in_no_and : (r : Bool) → In ([]) (alternatives l (AND-MORE r))
+pub in_no_and : (r : Bool) → In ([]) (alternatives l (AND_MORE r))
 unfolding roto
 in_no_and true = here
 in_no_and false = here
 
-pub in_more_and : (r : Bool) → In (one ('&&' ∷ []) ∷ phrase same (COMPARE r) ∷ row kinds.BINARY ∷ phrase same (AND-MORE r) ∷ []) (alternatives l (AND-MORE r))
+pub in_more_and : (r : Bool) → In (one ('&&' ∷ []) ∷ phrase same (COMPARE r) ∷ row kinds.BINARY ∷ phrase same (AND_MORE r) ∷ []) (alternatives l (AND_MORE r))
 unfolding roto
 in_more_and true = there here
 in_more_and false = there here
 
-pub in_chain_compare : (r : Bool) → In (phrase same (SUM r) ∷ phrase same (COMPARE-MORE r) ∷ []) (alternatives l (COMPARE r))
+pub in_chain_compare : (r : Bool) → In (phrase same (SUM r) ∷ phrase same (COMPARE_MORE r) ∷ []) (alternatives l (COMPARE r))
 unfolding roto
 in_chain_compare true = here
 in_chain_compare false = here
 
-pub in_no_compare : (r : Bool) → In ([]) (alternatives l (COMPARE-MORE r))
+pub in_no_compare : (r : Bool) → In ([]) (alternatives l (COMPARE_MORE r))
 unfolding roto
 in_no_compare true = here
 in_no_compare false = here
 
-pub in_more_compare : (r : Bool) → In (one compare_signs ∷ phrase same (SUM r) ∷ row kinds.BINARY ∷ []) (alternatives l (COMPARE-MORE r))
+pub in_more_compare : (r : Bool) → In (one compare_signs ∷ phrase same (SUM r) ∷ row kinds.BINARY ∷ []) (alternatives l (COMPARE_MORE r))
 unfolding roto
 in_more_compare true = there here
 in_more_compare false = there here
 
-pub in_chain_sum : (r : Bool) → In (phrase same (PRODUCT r) ∷ phrase same (SUM-MORE r) ∷ []) (alternatives l (SUM r))
+pub in_chain_sum : (r : Bool) → In (phrase same (PRODUCT r) ∷ phrase same (SUM_MORE r) ∷ []) (alternatives l (SUM r))
 unfolding roto
 in_chain_sum true = here
 in_chain_sum false = here
 
-pub in_no_sum : (r : Bool) → In ([]) (alternatives l (SUM-MORE r))
+pub in_no_sum : (r : Bool) → In ([]) (alternatives l (SUM_MORE r))
 unfolding roto
 in_no_sum true = here
 in_no_sum false = here
 
-pub in_more_sum : (r : Bool) → In (one sum_signs ∷ phrase same (PRODUCT r) ∷ row kinds.BINARY ∷ phrase same (SUM-MORE r) ∷ []) (alternatives l (SUM-MORE r))
+pub in_more_sum : (r : Bool) → In (one sum_signs ∷ phrase same (PRODUCT r) ∷ row kinds.BINARY ∷ phrase same (SUM_MORE r) ∷ []) (alternatives l (SUM_MORE r))
 unfolding roto
 in_more_sum true = there here
 in_more_sum false = there here
 
-pub in_chain_product : (r : Bool) → In (phrase same (OPERAND r) ∷ phrase same (PRODUCT-MORE r) ∷ []) (alternatives l (PRODUCT r))
+pub in_chain_product : (r : Bool) → In (phrase same (OPERAND r) ∷ phrase same (PRODUCT_MORE r) ∷ []) (alternatives l (PRODUCT r))
 unfolding roto
 in_chain_product true = here
 in_chain_product false = here
 
-pub in_no_product : (r : Bool) → In ([]) (alternatives l (PRODUCT-MORE r))
+pub in_no_product : (r : Bool) → In ([]) (alternatives l (PRODUCT_MORE r))
 unfolding roto
 in_no_product true = here
 in_no_product false = here
 
-pub in_more_product : (r : Bool) → In (one product_signs ∷ phrase same (OPERAND r) ∷ row kinds.BINARY ∷ phrase same (PRODUCT-MORE r) ∷ []) (alternatives l (PRODUCT-MORE r))
+pub in_more_product : (r : Bool) → In (one product_signs ∷ phrase same (OPERAND r) ∷ row kinds.BINARY ∷ phrase same (PRODUCT_MORE r) ∷ []) (alternatives l (PRODUCT_MORE r))
 unfolding roto
 in_more_product true = there here
 in_more_product false = there here
@@ -209,7 +207,7 @@ unfolding roto
 in_no_postfix true = here
 in_no_postfix false = here
 
-pub in_no_after : (r : Bool) → In ([]) (alternatives l (AFTER-PATH r))
+pub in_no_after : (r : Bool) → In ([]) (alternatives l (AFTER_PATH r))
 unfolding roto
 in_no_after true = here
 in_no_after false = here

@@ -7,10 +7,10 @@ use Prim.Native.Nat.{ℕ, zero, suc, ◌≤◌}
 use native.Mathlib.Omega.{arith}
 use lib.Dec.{T, eqb, eqb→eq, leb, leb-suc-zero, leb→le, ltb}
 use borrow.Author.Tests.{ltb-false, eqb-true, eqb-false}
-use Rattle.rows.specs.Kinds.{kinds}
-use Rattle.grammar.specs.Words.{four_words, path_items, words}
+use Rattle.rows.specs.Kinds as kinds
+use Rattle.grammar.specs.Words.{four_words, open_brace, open_paren, path_items}
 use Rattle.grammar.specs.Grammar.{Token, one_of}
-use Rattle.grammar.specs.Kinds.{records, phrases}
+use Rattle.grammar.specs.Kinds.{BLOCK, FOUR, records}
 use Rattle.grammar.specs.Readings.{peek}
 use Rattle.grammar.specs.Culprit.{lists}
 use Rattle.grammar.proofs.Bools.{and_l, and_r, or_cases}
@@ -19,8 +19,6 @@ use Rattle.printing.specs.Groves.{Grove, Head, Suit, Under, body, label_of, labe
 use Rattle.printing.specs.Pairs.{Choice}
 use Rattle.printing.proofs.Lists.{Whole, l}
 use Rattle.printing.proofs.Levels.{Level, climb, in_more_pairs}
-open words use {open-brace, open-paren}
-open phrases use {BLOCK, FOUR}
 
 -- what a place asks, as a level: 8 where no path may stand
 abbrev pub rank : Place → ℕ
@@ -36,7 +34,7 @@ pub data Barred : Type 0 where
 abbrev pub barred : Barred → List ℕ
 barred no_word = []
 barred the_four = four_words
-barred a_brace = open-brace ∷ []
+barred a_brace = open_brace ∷ []
 
 -- a path: items joined by dots
 abbrev pub name_head : Token → Head
@@ -146,7 +144,7 @@ module _ (s : List ℕ) where
   pub whole_free : (h : Head) (k : Grove) → needs_pair s whole h k ≡ false
   whole_free h k = ap (λ (b : Bool). b || false) (leb-suc-zero (level (label_of s h)))
 
-  paren_free : (u : Barred) → T (not (one_of open-paren (barred u)))
+  paren_free : (u : Barred) → T (not (one_of open_paren (barred u)))
   paren_free no_word = tt
   paren_free the_four = tt
   paren_free a_brace = tt

@@ -4,10 +4,10 @@ use mathlib.Core.List.{List, [], ◌∷◌, ◌++◌, append_assoc}
 use mathlib.Core.Bool.{Bool, true, false, cond}
 use Prim.Native.Nat.{ℕ, zero, suc}
 use lib.Dec.{T}
-use Rattle.rows.specs.Kinds.{kinds}
-use Rattle.grammar.specs.Words.{words as the-words}
+use Rattle.rows.specs.Kinds as kinds
+use Rattle.grammar.specs.Words.{close_paren, open_paren}
 use Rattle.grammar.specs.Grammar.{Ask, Parts, Stream, Token, end, node, one_of}
-use Rattle.grammar.specs.Kinds.{phrases}
+use Rattle.grammar.specs.Kinds.{TREE}
 use Rattle.grammar.specs.Limits.{Counts}
 use Rattle.grammar.specs.Readings.{ReadingBy, reads_end, reads_phrase}
 use Rattle.grammar.specs.Rows.{rows}
@@ -27,8 +27,6 @@ use Rattle.printing.proofs.Claims.{Knows}
 use Rattle.printing.proofs.Steps.{Of, P, step}
 use Rattle.printing.proofs.Decls.{tree_read}
 use Rattle.printing.proofs.Texts.{Sure, texts}
-open the-words use {close-paren, open-paren}
-open phrases use {TREE}
 
 -- the tree of a reading; with pairs, as tokens
 abbrev pub grove_of : Parts → Grove
@@ -72,7 +70,7 @@ module _ (S : Stream) (G : Ask → Counts → Token → Bool) (s : List ℕ) whe
 
   pairs_spell : (n : ℕ) (xs bs : List Bit) (f : List Token → List Token) (ts : List Token) → ((cs : List Bit) (z : List Token) → Spells S l G s cs z → Spells S l G s (xs ++ cs) (f z)) → Spells S l G s bs ts → Spells S l G s (in_pairs n xs ++ bs) (pairs n f ts)
   pairs_spell zero xs bs f ts h u = h bs ts u
-  pairs_spell (suc n) xs bs f ts h u = spells_sign open-paren (subst (λ (c : List Bit). Spells S l G s c (pairs n f (token_of close-paren ∷ ts))) (sym (append_assoc (in_pairs n xs) (sign close-paren ∷ []) bs)) (pairs_spell n xs (sign close-paren ∷ bs) f (token_of close-paren ∷ ts) h (spells_sign close-paren u)))
+  pairs_spell (suc n) xs bs f ts h u = spells_sign open_paren (subst (λ (c : List Bit). Spells S l G s c (pairs n f (token_of close_paren ∷ ts))) (sym (append_assoc (in_pairs n xs) (sign close_paren ∷ []) bs)) (pairs_spell n xs (sign close_paren ∷ bs) f (token_of close_paren ∷ ts) h (spells_sign close_paren u)))
 
   own_spell : (h : Head) (own : List Bit) (f : List Token → List Token) → (T (one_of h.kind copied) → Stands S l G h.kind h.tokens) → ((cs : List Bit) (z : List Token) → Spells S l G s cs z → Spells S l G s (own ++ cs) (f z)) → (cs : List Bit) (z : List Token) → Spells S l G s cs z → Spells S l G s (cond (one_of h.kind copied) (copy (bytes_of s h.kind h.tokens) ∷ []) own ++ cs) (cond (one_of h.kind copied) (h.tokens ++ z) (f z))
   own_spell h own f o g cs z u = go (one_of h.kind copied) refl o

@@ -28,10 +28,10 @@ use Rattle.texts.specs.Texts.{text_of}
 use Rattle.values.specs.declared.Literal.{Literal}
 use Rattle.values.specs.Literals.{from_amount, from_number, from_quad, from_address, from_size, from_point, bool_of, literal_of}
 use Rattle.chars.specs.Texts.{bytes, same}
-use Rattle.rows.specs.Kinds.{kinds}
-use Rattle.grammar.specs.Words.{literals, words}
+use Rattle.rows.specs.Kinds as kinds
+use Rattle.grammar.specs.Words.{text_then_hole, last_text, literals}
 use Rattle.grammar.specs.Grammar.{Ask, plain, has_value, opens_bracket, closes_bracket, is_prefix, is_head, is_else_if, Token, Look, found, over, wrong, Parts, one_of}
-use Rattle.grammar.specs.Kinds.{phrases}
+use Rattle.grammar.specs.Kinds.{TREE}
 use Rattle.grammar.specs.Limits.{Counts, kept}
 use Rattle.grammar.specs.Readings.{Text}
 use Rattle.grammar.proofs.Bools.{F→eq, or_l}
@@ -47,8 +47,6 @@ use Rattle.printing.proofs.ReadsBack.{AllSuit, grove_of}
 use Rattle.printing.proofs.Printed.{RoundTrip, RoundTripOf, chosen_trip, round_trip}
 use Rattle.printing.specs.Groves.{bits}
 use Rattle.printing.specs.Pairs.{Choice}
-open words use {text-then-hole, last-text}
-open phrases use {TREE}
 
 -- a literal that has a value has a literal's kind
 abbrev Good : Literal → Type 0
@@ -123,10 +121,10 @@ look_fine s (Refused r) x j e = after_fine (eqb r.number 11) (eqb r.number 5) r 
 
 -- no token is an f-string's row
 abbrev Kinded : Token → Type 0
-Kinded x = eqb x.kind kinds.F-STRING ≡ false
+Kinded x = eqb x.kind kinds.F_STRING ≡ false
 
-literal_kinded : (x : Literal) → Good x → eqb (kind_of x) kinds.F-STRING ≡ false
-literal_kinded (Literal.Is k v d) f = F→eq (eqb k kinds.F-STRING) (λ h. T_not (one_of k (kinds.F-STRING ∷ [])) (apart literal_kinds (kinds.F-STRING ∷ []) k tt (f tt)) (or_l (eqb k kinds.F-STRING) false h))
+literal_kinded : (x : Literal) → Good x → eqb (kind_of x) kinds.F_STRING ≡ false
+literal_kinded (Literal.Is k v d) f = F→eq (eqb k kinds.F_STRING) (λ h. T_not (one_of k (kinds.F_STRING ∷ [])) (apart literal_kinds (kinds.F_STRING ∷ []) k tt (f tt)) (or_l (eqb k kinds.F_STRING) false h))
 literal_kinded Literal.None f = refl
 
 after_kinded : (b c : Bool) (r : Refusal) (x : Token) (j : ℕ) → look_after b c r ≡ found x j → Kinded x
@@ -142,15 +140,15 @@ pub token_kinded : (s : List ℕ) (i : ℕ) (x : Token) (j : ℕ) → (source s)
 token_kinded s i x j e = look_kinded s (step_at s i) x j e
 
 abbrev Texty : Token → Type 0
-Texty x = T (one_of x.word (text-then-hole ∷ last-text ∷ []))
+Texty x = T (one_of x.word (text_then_hole ∷ last_text ∷ []))
 
 text_word : (w a e : ℕ) (n : Size) → (text_token w a e n).word ≡ w
 text_word w a e (Size.Is n) = refl
 text_word w a e Size.None = refl
 
 piece_texty : (s : List ℕ) (at : ℕ) (t : Part) (x : Token) (j : ℕ) → piece_of s at t ≡ found x j → Texty x
-piece_texty s at (Before e) x j h = subst Texty (same_token h) (subst (λ (n : ℕ). T (one_of n (text-then-hole ∷ last-text ∷ []))) (sym (text_word text-then-hole at e (text_of (slice at e s)))) tt)
-piece_texty s at (Ends e) x j h = subst Texty (same_token h) (subst (λ (n : ℕ). T (one_of n (text-then-hole ∷ last-text ∷ []))) (sym (text_word last-text at e (text_of (slice at e s)))) tt)
+piece_texty s at (Before e) x j h = subst Texty (same_token h) (subst (λ (n : ℕ). T (one_of n (text_then_hole ∷ last_text ∷ []))) (sym (text_word text_then_hole at e (text_of (slice at e s)))) tt)
+piece_texty s at (Ends e) x j h = subst Texty (same_token h) (subst (λ (n : ℕ). T (one_of n (text_then_hole ∷ last_text ∷ []))) (sym (text_word last_text at e (text_of (slice at e s)))) tt)
 piece_texty s at None x j h = absurd (never_over h)
 
 module _ (s : List ℕ) where
@@ -177,7 +175,7 @@ module _ (s : List ℕ) where
   pub known : Known (source s) l kept Knows (P (source s) kept s)
   known = record {
     looks = λ g d i j x e k. knows g d x (λ m. look_fine s (step_at s i) x j e) k;
-    pieces = λ d i j x e k. knows has_value d x (λ m. absurd (T_not (one_of x.word literals) (apart (text-then-hole ∷ last-text ∷ []) literals x.word tt (piece_texty s i (part_at s i) x j e)) m)) k;
+    pieces = λ d i j x e k. knows has_value d x (λ m. absurd (T_not (one_of x.word literals) (apart (text_then_hole ∷ last_text ∷ []) literals x.word tt (piece_texty s i (part_at s i) x j e)) m)) k;
   }
 
   pub sure : Sure (source s) kept

@@ -4,8 +4,8 @@ use mathlib.Core.List.{List, [], ◌∷◌}
 use mathlib.Core.Bool.{Bool, true, false, not, ◌&&◌, ◌||◌, cond}
 use Prim.Native.Nat.{ℕ}
 use lib.Dec.{T, eqb, eqb→eq, leb-suc-zero, ltb}
-use Rattle.rows.specs.Kinds.{kinds}
-use Rattle.grammar.specs.Words.{four_words, words}
+use Rattle.rows.specs.Kinds as kinds
+use Rattle.grammar.specs.Words.{'if', comma, dot, four_words, open_brace}
 use Rattle.grammar.specs.Grammar.{one_of}
 use Rattle.grammar.proofs.Bools.{and_l, and_r}
 use Rattle.canon.specs.Trees.{Label, Forest, none, tree}
@@ -13,7 +13,6 @@ use Rattle.canon.specs.Layout.{Entry, Layout, Place, Slot, ◌then◌, arm, arms
 use Rattle.canon.specs.Text.{later, place_of}
 use Rattle.printing.specs.Pairs.{expr_at}
 use Rattle.printing.proofs.Placed.{each_of}
-open words use {'if', comma, dot, open-brace}
 
 -- a place that asks nothing needs no pair
 abbrev no_words : List ℕ → Bool
@@ -78,7 +77,7 @@ slots_free false xs ys h k = k
 
 headed_free : (r b : Bool) (f : Forest) → T (free (headed r b f))
 headed_free r b none = tt
-headed_free r b (tree a k t) = slots_free (eqb a.kind kinds.TYPED-NAME) _ _ (headed_free r false t) (slots_free r _ _ tt tt)
+headed_free r b (tree a k t) = slots_free (eqb a.kind kinds.TYPED_NAME) _ _ (headed_free r false t) (slots_free r _ _ tt tt)
 
 layout_free : (b : Bool) (y z : Layout) → T (free y.slots) → T (free z.slots) → T (free (cond b y z).slots)
 layout_free true y z h k = h
@@ -119,8 +118,8 @@ body_spare more (tree a k t) = block_spare kinds.ARM (body more a.kind).slots (t
     kind_same : {b : Label} {j u : Forest} → tree a k t ≡ tree b j u → a.kind ≡ b.kind
     kind_same f = ap first_kind f
 
-    whole_if : (n : ℕ) (b : Label) (j : Forest) → eqb n kinds.BLOCK ≡ true → needs (cond (eqb n kinds.BLOCK) whole (asks 0 true (open-brace ∷ []))) b j ≡ false
-    whole_if n b j e = subst (λ (o : Bool). needs (cond o whole (asks 0 true (open-brace ∷ []))) b j ≡ false) (sym e) (needs_none whole b j tt)
+    whole_if : (n : ℕ) (b : Label) (j : Forest) → eqb n kinds.BLOCK ≡ true → needs (cond (eqb n kinds.BLOCK) whole (asks 0 true (open_brace ∷ []))) b j ≡ false
+    whole_if n b j e = subst (λ (o : Bool). needs (cond o whole (asks 0 true (open_brace ∷ []))) b j ≡ false) (sym e) (needs_none whole b j tt)
 
 arm_spare : (more : Bool) (v : ℕ) (f : Forest) → Spare kinds.ARM true (arm more v (rest f)).slots f
 arm_spare more v none = tt
@@ -171,11 +170,11 @@ all_kinds c v d f = (
       (
         free_spare kinds.OPTION true _ f tt,
         (
-          free_spare kinds.PATH-TYPE true _ f (either_free (eqb v 0) _ _ tt (joined_free _ (comma ∷ []) (rest f))),
+          free_spare kinds.PATH_TYPE true _ f (either_free (eqb v 0) _ _ tt (joined_free _ (comma ∷ []) (rest f))),
           (
-            free_spare kinds.RECORD-TYPE true _ f (joined_free _ (comma ∷ []) f),
+            free_spare kinds.RECORD_TYPE true _ f (joined_free _ (comma ∷ []) f),
             (
-              free_spare kinds.TYPED-NAME true _ f tt,
+              free_spare kinds.TYPED_NAME true _ f tt,
               (
                 all_spare kinds.BINARY true _ f (λ i b j. refl),
                 (
@@ -223,7 +222,7 @@ all_kinds c v d f = (
                                                           (
                                                             free_spare kinds.TREE true _ f (each_free [] f),
                                                             (
-                                                              free_spare kinds.IMPORT-PATH true _ f (imports_free true false f),
+                                                              free_spare kinds.IMPORT_PATH true _ f (imports_free true false f),
                                                               (
                                                                 free_spare kinds.FILTER true _ f (headed_free false true (rest f)),
                                                                 tt,

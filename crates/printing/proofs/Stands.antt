@@ -5,9 +5,9 @@ use mathlib.Core.List.{List, [], ◌∷◌}
 use mathlib.Core.Bool.{Bool, true, false, not, ◌&&◌, ◌||◌, cond}
 use Prim.Native.Nat.{ℕ}
 use lib.Dec.{T, T_not, eqb, eqb→eq}
-use Rattle.rows.specs.Kinds.{kinds}
+use Rattle.rows.specs.Kinds as kinds
 use Rattle.grammar.specs.Grammar.{Ask, In, Symbol, same, found, token, phrase, unless, note, left_side, text, Token, Stream, Parts, one_of, alternatives}
-use Rattle.grammar.specs.Kinds.{phrases}
+use Rattle.grammar.specs.Kinds.{F_STRING}
 use Rattle.grammar.specs.Table.{rest_kinds, literal_row}
 use Rattle.grammar.specs.Limits.{Counts}
 use Rattle.grammar.specs.Readings.{ReadingBy, reads_end, reads_token, reads_phrase, reads_unless, reads_note, reads_side, reads_text}
@@ -25,7 +25,6 @@ use Rattle.printing.proofs.Placed.{disjoint, apart}
 use Rattle.printing.proofs.Back.{alt_at}
 use Rattle.printing.proofs.Notes.{plain_note, plain_notes, plain_if, not_copied}
 use Rattle.printing.proofs.Texts.{grown_read}
-open phrases use {F-STRING}
 
 -- a row of one token, which a print doesn't write by itself
 abbrev nil_symbols : List Symbol → Bool
@@ -37,7 +36,7 @@ noted_alone w [] = false
 noted_alone w (token g v ∷ t) = false
 noted_alone w (phrase o n ∷ t) = false
 noted_alone w (unless v ∷ t) = false
-noted_alone w (note k ∷ t) = nil_symbols t && ((no_text w && disjoint w sign_words) && (not (eqb k 0) && not (eqb k kinds.F-STRING)))
+noted_alone w (note k ∷ t) = nil_symbols t && ((no_text w && disjoint w sign_words) && (not (eqb k 0) && not (eqb k kinds.F_STRING)))
 noted_alone w (left_side n m ∷ t) = false
 noted_alone w (text n ∷ t) = false
 
@@ -56,7 +55,7 @@ stringy [] = false
 stringy (token g w ∷ t) = stringy t
 stringy (phrase o n ∷ t) = stringy t
 stringy (unless w ∷ t) = false
-stringy (note k ∷ t) = eqb k kinds.F-STRING && nil_symbols t
+stringy (note k ∷ t) = eqb k kinds.F_STRING && nil_symbols t
 stringy (left_side n m ∷ t) = false
 stringy (text n ∷ t) = stringy t
 
@@ -66,13 +65,13 @@ stringy_if false n t h = h
 
 -- each alternative makes no row that is copied, or is such a row or an f-string
 abbrev known : ℕ → List Symbol → Bool
-known n b = plain_notes b || (not (one_of n rest_kinds) && (single b || eqb n F-STRING))
+known n b = plain_notes b || (not (one_of n rest_kinds) && (single b || eqb n F_STRING))
 
 all_known : T (each_passes known l.rules)
 unfolding roto
 all_known = tt
 
-is_string : {n : ℕ} {b : List Symbol} → n ≡ F-STRING → In b (alternatives l n) → b ≡ string_symbols
+is_string : {n : ℕ} {b : List Symbol} → n ≡ F_STRING → In b (alternatives l n) → b ≡ string_symbols
 unfolding roto
 is_string {n} {b} e o = alt_at (λ (c : List Symbol). c ≡ string_symbols) (subst (λ (m : ℕ). In b (alternatives l m)) e o) (refl, tt)
 
@@ -104,13 +103,13 @@ module _ (S : Stream) (G : Ask → Counts → Token → Bool) where
       go false = (stands (one_of head.kind copied) f, u, tt)
 
   -- a row of one token
-  alone : (k : ℕ) (x : Token) (i j : S.Place) → is_text x ≡ false → eqb k kinds.F-STRING ≡ false → S.look i ≡ found x j → T (not (one_of x.word sign_words)) → FromSource S l G (noted k (add x fresh)).kids
+  alone : (k : ℕ) (x : Token) (i j : S.Place) → is_text x ≡ false → eqb k kinds.F_STRING ≡ false → S.look i ≡ found x j → T (not (one_of x.word sign_words)) → FromSource S l G (noted k (add x fresh)).kids
   alone k x i j t f e m = subst (λ (a : State). FromSource S l G (noted k a).kids) (sym is) (note_from k (with_word x fresh) (λ h. stands_token i j (go (eqb k literal_row)) e m) tt)
     where
       is : add x fresh ≡ with_word x fresh
       is = rw t refl
 
-      go : (b : Bool) → (eqb (cond {A = Head} b (literal_head (groves.word x) nil) (record { kind = k; value = 0; detail = detail_for k x.word; tokens = [] })).kind kinds.F-STRING ≡ false) ⊎ ((cond {A = Head} b (literal_head (groves.word x) nil) (record { kind = k; value = 0; detail = detail_for k x.word; tokens = [] })).kind ≡ x.kind)
+      go : (b : Bool) → (eqb (cond {A = Head} b (literal_head (groves.word x) nil) (record { kind = k; value = 0; detail = detail_for k x.word; tokens = [] })).kind kinds.F_STRING ≡ false) ⊎ ((cond {A = Head} b (literal_head (groves.word x) nil) (record { kind = k; value = 0; detail = detail_for k x.word; tokens = [] })).kind ≡ x.kind)
       go true = inr refl
       go false = inl f
 
@@ -121,9 +120,9 @@ module _ (S : Stream) (G : Ask → Counts → Token → Bool) where
   noted_from w x (phrase o n ∷ t) h e m u = absurd h
   noted_from w x (unless v ∷ t) h e m u = absurd h
   noted_from {i = i} {j = j} w x (note k ∷ []) h e m (reads_note reads_end) =
-      let h₀ = and_l (no_text w && disjoint w sign_words) (not (eqb k 0) && not (eqb k kinds.F-STRING)) h in
-      let h₁ = and_r (no_text w && disjoint w sign_words) (not (eqb k 0) && not (eqb k kinds.F-STRING)) h in
-      alone k x i j (plain_word x w (and_l (no_text w) (disjoint w sign_words) h₀) m) (F→eq (eqb k kinds.F-STRING) (T_not (eqb k kinds.F-STRING) (and_r (not (eqb k 0)) (not (eqb k kinds.F-STRING)) h₁))) e (apart w sign_words x.word (and_r (no_text w) (disjoint w sign_words) h₀) m)
+      let h₀ = and_l (no_text w && disjoint w sign_words) (not (eqb k 0) && not (eqb k kinds.F_STRING)) h in
+      let h₁ = and_r (no_text w && disjoint w sign_words) (not (eqb k 0) && not (eqb k kinds.F_STRING)) h in
+      alone k x i j (plain_word x w (and_l (no_text w) (disjoint w sign_words) h₀) m) (F→eq (eqb k kinds.F_STRING) (T_not (eqb k kinds.F_STRING) (and_r (not (eqb k 0)) (not (eqb k kinds.F_STRING)) h₁))) e (apart w sign_words x.word (and_r (no_text w) (disjoint w sign_words) h₀) m)
   noted_from w x (note k ∷ y ∷ t) h e m u = absurd h
   noted_from w x (left_side n n₁ ∷ t) h e m u = absurd h
   noted_from w x (text n ∷ t) h e m u = absurd h
@@ -140,7 +139,7 @@ module _ (S : Stream) (G : Ask → Counts → Token → Bool) where
 
   -- what is owed where symbols make an f-string's row: that all that was read stands
   abbrev Owed : List Symbol → State → Type 0
-  Owed t b = T (plain_notes t) ⊎ (T (stringy t) × Stands S l G kinds.F-STRING b.read)
+  Owed t b = T (plain_notes t) ⊎ (T (stringy t) × Stands S l G kinds.F_STRING b.read)
 
   entered : (b : Bool) (a : State) → FromSource S l G a.kids → FromSource S l G (enter b a).kids
   entered true a u = u
@@ -151,23 +150,23 @@ module _ (S : Stream) (G : Ask → Counts → Token → Bool) where
   left_by false a c u v = from_two a.kids c.kids u v
 
   inner : {d : Counts} {i r : S.Place} (n : ℕ) (c : List Symbol) (p : Parts) → In c (alternatives l n) → ReadingBy S l G d c i r p → ((b : State) → Owed c (grow p b) → FromSource S l G b.kids → FromSource S l G (grow p b).kids) → (a : State) → FromSource S l G a.kids → (b : Bool) → one_of n rest_kinds ≡ b → FromSource S l G (grow p (enter b a)).kids
-  inner {d} {i} {r} n c p o t f a u b e = elim (or_cases (plain_notes c) (not (one_of n rest_kinds) && (single c || eqb n F-STRING)) (passes_at known l.rules n all_known o)) [
+  inner {d} {i} {r} n c p o t f a u b e = elim (or_cases (plain_notes c) (not (one_of n rest_kinds) && (single c || eqb n F_STRING)) (passes_at known l.rules n all_known o)) [
     | inl h ↦ f (enter b a) (inl h) (entered b a u)
-    | inr h ↦ own b e (and_r (not (one_of n rest_kinds)) (single c || eqb n F-STRING) h) (and_l (not (one_of n rest_kinds)) (single c || eqb n F-STRING) h)
+    | inr h ↦ own b e (and_r (not (one_of n rest_kinds)) (single c || eqb n F_STRING) h) (and_l (not (one_of n rest_kinds)) (single c || eqb n F_STRING) h)
   ]
     where
-      string_from : n ≡ F-STRING → FromSource S l G (grow p fresh).kids
+      string_from : n ≡ F_STRING → FromSource S l G (grow p fresh).kids
       string_from m =
           let z = is_string m o in
           f fresh (inr (subst (λ (y : List Symbol). T (stringy y)) (sym z) tt, stands_string d i r refl (subst (λ (y : List Symbol). ReadingBy S l G d y i r p) z t) (grown_read p fresh))) tt
 
-      own : (b : Bool) → one_of n rest_kinds ≡ b → T (single c || eqb n F-STRING) → T (not (one_of n rest_kinds)) → FromSource S l G (grow p (enter b a)).kids
+      own : (b : Bool) → one_of n rest_kinds ≡ b → T (single c || eqb n F_STRING) → T (not (one_of n rest_kinds)) → FromSource S l G (grow p (enter b a)).kids
       own true k h g = absurd (T_not (one_of n rest_kinds) g (subst T (sym k) tt))
-      own false k h g = elim (or_cases (single c) (eqb n F-STRING) h) [ inl y ↦ single_from c y t | inr y ↦ string_from (eqb→eq n F-STRING y) ]
+      own false k h g = elim (or_cases (single c) (eqb n F_STRING) h) [ inl y ↦ single_from c y t | inr y ↦ string_from (eqb→eq n F_STRING y) ]
 
-  ended_from : {d : Counts} {i r : S.Place} {p : Parts} (t : List Symbol) (a : State) → T (nil_symbols t) → ReadingBy S l G d t i r p → Stands S l G kinds.F-STRING (grow p (noted kinds.F-STRING a)).read → FromSource S l G a.kids → FromSource S l G (grow p (noted kinds.F-STRING a)).kids
+  ended_from : {d : Counts} {i r : S.Place} {p : Parts} (t : List Symbol) (a : State) → T (nil_symbols t) → ReadingBy S l G d t i r p → Stands S l G kinds.F_STRING (grow p (noted kinds.F_STRING a)).read → FromSource S l G a.kids → FromSource S l G (grow p (noted kinds.F_STRING a)).kids
   unfolding grow
-  ended_from [] a h reads_end o u = note_from kinds.F-STRING a (λ y. o) u
+  ended_from [] a h reads_end o u = note_from kinds.F_STRING a (λ y. o) u
   ended_from (x ∷ t) a h v o u = absurd h
 
   gathered : {d : Counts} {t : List Symbol} {i r : S.Place} {p : Parts} (a : State) → ReadingBy S l G d t i r p → Owed t (grow p a) → FromSource S l G a.kids → FromSource S l G (grow p a).kids
@@ -180,7 +179,7 @@ module _ (S : Stream) (G : Ask → Counts → Token → Bool) where
   gathered a (reads_unless m v) o u = elim o [ inl h ↦ gathered a v (inl h) u | inr h ↦ absurd h.0 ]
   gathered a (reads_note {k = k} {s = t} {p = p} v) o u = elim o [
     | inl h ↦ gathered (noted k a) v (inl (and_r (plain_note k) (plain_notes t) h)) (note_from k a (λ y. not_copied k a (and_l (plain_note k) (plain_notes t) h) (T→eq (one_of (head_for k a).kind copied) y)) u)
-    | inr h ↦ subst (λ (m : ℕ). Stands S l G kinds.F-STRING (grow p (noted m a)).read → FromSource S l G (grow p (noted m a)).kids) (sym (eqb→eq k kinds.F-STRING (and_l (eqb k kinds.F-STRING) (nil_symbols t) h.0))) (λ y. ended_from t a (and_r (eqb k kinds.F-STRING) (nil_symbols t) h.0) v y u) h.1
+    | inr h ↦ subst (λ (m : ℕ). Stands S l G kinds.F_STRING (grow p (noted m a)).read → FromSource S l G (grow p (noted m a)).kids) (sym (eqb→eq k kinds.F_STRING (and_l (eqb k kinds.F_STRING) (nil_symbols t) h.0))) (λ y. ended_from t a (and_r (eqb k kinds.F_STRING) (nil_symbols t) h.0) v y u) h.1
   ]
   gathered a (reads_side {n = n} {n₁ = m} {a = c} {s = t} {p = p} i v k w) o u =
       let b = one_of n rest_kinds in

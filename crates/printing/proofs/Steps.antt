@@ -4,10 +4,10 @@ use mathlib.Core.List.{List, [], ◌∷◌, ◌++◌}
 use mathlib.Core.Bool.{Bool, true, false, not, ◌||◌, ◌&&◌, cond}
 use Prim.Native.Nat.{ℕ, zero, suc, pred, ◌≤◌}
 use lib.Dec.{T, eqb}
-use Rattle.rows.specs.Kinds.{kinds}
-use Rattle.grammar.specs.Words.{assign_signs, binary_signs, compare_signs, filter_words, four_words, literals, names, path_items, product_signs, return_words, sum_signs, words}
+use Rattle.rows.specs.Kinds as kinds
+use Rattle.grammar.specs.Words.{'!', '&&', '-', ':', '=', '=>', '?', 'const', 'else', 'fn', 'for', 'if', 'import', 'in', 'let', 'match', 'test', 'while', '||', assign_signs, binary_signs, close_brace, close_bracket, close_paren, comma, compare_signs, dot, f_quote, filter_words, four_words, literals, name, names, open_brace, open_bracket, open_paren, path_items, product_signs, return_words, semicolon, sum_signs, underscore}
 use Rattle.grammar.specs.Grammar.{Ask, Parts, Stream, Symbol, Token, body, end, is_else_if, left_side, mark, node, one_of, phrase, same, text, token, unless}
-use Rattle.grammar.specs.Kinds.{no_records, records, phrases}
+use Rattle.grammar.specs.Kinds.{AFTER_EXPR, AFTER_FOUR, ARM, ARM_BODY, ARM_COMMA, ARM_NEXT, ARMS, BLOCK, BRACES_INSIDE, DECLARATION, DECLARATIONS, ELSE, ELSE_IF, ELSE_PART, EXPR, EXPRS, F_STRING, FIELD, FIELD_NAME, FIELDS, FIELDS_MORE, FOUR, GUARD, HOLE, IMPORT, IMPORTED, IMPORTPATH, IMPORTPATH_DOT, IMPORTPATH_REST, IMPORTPATHS, IMPORTPATHS_MORE, LET, LET_TYPE, NAME, NAMES, PARAMS, PATH_ITEM, PATH_REST, PATTERN, RESULT, STATEMENT, STATEMENTS, TYPE, TYPE_MARKS, TYPED_NAME, TYPED_NAMES, TYPED_NAMES_MORE, TYPES, VARIANT, VARIANT_NAMES, no_records, records}
 use Rattle.grammar.specs.Limits.{Counts}
 use Rattle.grammar.specs.Table.{a, one, word, opens, closes, prefix, head, literal, row, part, behind, rest_kinds, literal_row}
 use Rattle.grammar.specs.Rows.{is_text, place_in}
@@ -26,8 +26,6 @@ use Rattle.printing.proofs.Decls.{Declared, Params, const_says, filter_says, fn_
 use Rattle.printing.proofs.Back.{All, Once, Rules, Step, all_end, all_note, all_phrase, all_side, all_token, all_unless, rule_at}
 use Rattle.printing.proofs.Grown.{path_grown}
 use Rattle.printing.proofs.Claims.{Adds, After, BlockOf, Bodied, Braced, Expr, Guarded, Joins, Knows, LetOf, More, Name, NoTrees, OfKind, On, Parted, PathsOf, Perhaps, Ret, Returned, Tree, Trees, TypeOk, Variants, claim_in, claims, is_there, keep_nil, no_trees, not_there, ret_none, ret_one, sh}
-open words use {'!', '&&', '-', ':', '=', '=>', '?', 'const', 'else', 'fn', 'for', 'if', 'import', 'in', 'let', 'match', 'test', 'while', '||', close-brace, close-bracket, close-paren, comma, dot, f-quote, name, open-brace, open-bracket, open-paren, semicolon, underscore}
-open phrases use {AFTER-EXPR, AFTER-FOUR, ARM, ARM-BODY, ARM-COMMA, ARM-NEXT, ARMS, BLOCK, BRACES-INSIDE, DECLARATION, DECLARATIONS, ELSE, ELSE-IF, ELSE-PART, EXPR, EXPRS, F-STRING, FIELD, FIELD-NAME, FIELDS, FIELDS-MORE, FOUR, GUARD, HOLE, IMPORT, IMPORTED, IMPORTPATH, IMPORTPATH-DOT, IMPORTPATH-REST, IMPORTPATHS, IMPORTPATHS-MORE, LET, LET-TYPE, NAME, NAMES, PARAMS, PATH-ITEM, PATH-REST, PATTERN, RESULT, STATEMENT, STATEMENTS, TYPE, TYPE-MARKS, TYPED-NAME, TYPED-NAMES, TYPED-NAMES-MORE, TYPES, VARIANT, VARIANT-NAMES}
 
 module _ (S : Stream) (G : Ask → Counts → Token → Bool) (s : List ℕ) where
   abbrev pub P : ℕ → List Symbol → Parts → Type 0
@@ -85,22 +83,22 @@ module _ (S : Stream) (G : Ask → Counts → Token → Bool) (s : List ℕ) whe
       let r = g q v _ _ (question_row s h k z) in
       (r.0, r.1, has_tok x (plain_word x ('?' ∷ []) tt e) (has_put kinds.QUESTION refl refl refl (has_rest j r.2 (has_end _))), r.3)
 
-  call_on : {m : ℕ} {p : Parts} → one_of m rest_kinds ≡ true → ((p : Parts) → claim_in (claims s) m p → More s p) → Of (opens open-paren ∷ phrase same EXPRS ∷ closes close-paren ∷ row kinds.CALL ∷ phrase same m ∷ []) p → More s p
+  call_on : {m : ℕ} {p : Parts} → one_of m rest_kinds ≡ true → ((p : Parts) → claim_in (claims s) m p → More s p) → Of (opens open_paren ∷ phrase same EXPRS ∷ closes close_paren ∷ row kinds.CALL ∷ phrase same m ∷ []) p → More s p
   call_on j g (all_token {x = x} e y (all_phrase {p = p} u (all_token {x = x'} e' y' (all_note (all_phrase {p = q} v all_end))))) h k z =
       let o = u (top h k nil) x.word 0 in
       let r = g q v _ _ (call_row s h k z o.0 o.2) in
-      (r.0, r.1, has_tok x (plain_word x (open-paren ∷ []) tt e) (has_rest refl o.1 (has_tok x' (plain_word x' (close-paren ∷ []) tt e') (has_put kinds.CALL refl refl refl (has_rest j r.2 (has_end _))))), r.3)
+      (r.0, r.1, has_tok x (plain_word x (open_paren ∷ []) tt e) (has_rest refl o.1 (has_tok x' (plain_word x' (close_paren ∷ []) tt e') (has_put kinds.CALL refl refl refl (has_rest j r.2 (has_end _))))), r.3)
 
   access_on : {m : ℕ} {p : Parts} → one_of m rest_kinds ≡ true → ((p : Parts) → claim_in (claims s) m p → More s p) → Of (word dot ∷ phrase same NAME ∷ row kinds.ACCESS ∷ phrase same m ∷ []) p → More s p
   access_on j g (all_token {x = x} e y (all_phrase {p = p} u (all_note (all_phrase {p = q} v all_end)))) h k z =
       let r = g q v _ _ (access_row s h k z u.0 u.2) in
       (r.0, r.1, has_tok x (plain_word x (dot ∷ []) tt e) (has_sub refl u.1 (has_put kinds.ACCESS refl refl refl (has_rest j r.2 (has_end _)))), r.3)
 
-  record_on : {m : ℕ} {p : Parts} → one_of m rest_kinds ≡ true → ((p : Parts) → claim_in (claims s) m p → More s p) → Of (opens open-brace ∷ phrase same FIELDS ∷ closes close-brace ∷ part ∷ row kinds.RECORD ∷ phrase same m ∷ []) p → On s PathTree (Placed s) p
+  record_on : {m : ℕ} {p : Parts} → one_of m rest_kinds ≡ true → ((p : Parts) → claim_in (claims s) m p → More s p) → Of (opens open_brace ∷ phrase same FIELDS ∷ closes close_brace ∷ part ∷ row kinds.RECORD ∷ phrase same m ∷ []) p → On s PathTree (Placed s) p
   record_on j g (all_token {x = x} e y (all_phrase {p = p} u (all_token {x = x'} e' y' (all_note (all_note (all_phrase {p = q} v all_end)))))) h k z =
       let o = u (top h k nil) x.word 0 in
       let r = g q v _ _ (path_record s h k o.0 z o.2) in
-      (r.0, r.1, has_tok x (plain_word x (open-brace ∷ []) tt e) (has_rest refl o.1 (has_tok x' (plain_word x' (close-brace ∷ []) tt e') (has_told (has_put kinds.RECORD refl refl refl (has_rest j r.2 (has_end _)))))), r.3)
+      (r.0, r.1, has_tok x (plain_word x (open_brace ∷ []) tt e) (has_rest refl o.1 (has_tok x' (plain_word x' (close_brace ∷ []) tt e') (has_told (has_put kinds.RECORD refl refl refl (has_rest j r.2 (has_end _)))))), r.3)
 
   -- a path is an expr
   from_path : {p : Parts} → More s p → On s PathTree (Placed s) p
@@ -162,23 +160,23 @@ module _ (S : Stream) (G : Ask → Counts → Token → Bool) (s : List ℕ) whe
       is : one_of x.kind copied ≡ true
       is = each_of (λ k. one_of k copied ≡ true) literal_kinds x.kind (y.1 i) (refl, (refl, (refl, (refl, (refl, (refl, (refl, (refl, tt))))))))
 
-  parens_of : {p : Parts} → Of (opens open-paren ∷ phrase same (EXPR records) ∷ closes close-paren ∷ []) p → Expr s p
-  parens_of (all_token {x = x} e y (all_phrase u (all_token {x = x'} e' y' all_end))) = (u.0, u.1, left_trees (has_tok x (plain_word x (open-paren ∷ []) tt e) (has_sub refl u.2 (has_tok x' (plain_word x' (close-paren ∷ []) tt e') (has_end _)))), u.3)
+  parens_of : {p : Parts} → Of (opens open_paren ∷ phrase same (EXPR records) ∷ closes close_paren ∷ []) p → Expr s p
+  parens_of (all_token {x = x} e y (all_phrase u (all_token {x = x'} e' y' all_end))) = (u.0, u.1, left_trees (has_tok x (plain_word x (open_paren ∷ []) tt e) (has_sub refl u.2 (has_tok x' (plain_word x' (close_paren ∷ []) tt e') (has_end _)))), u.3)
 
-  braces_of : {p : Parts} → Of (opens open-brace ∷ phrase same BRACES-INSIDE ∷ []) p → Expr s p
-  braces_of (all_token {x = x} e y (all_phrase u all_end)) = let o = u x.word in (o.0, o.1, left_trees (has_tok x (plain_word x (open-brace ∷ []) tt e) (has_rest refl o.2 (has_end _))), o.3)
+  braces_of : {p : Parts} → Of (opens open_brace ∷ phrase same BRACES_INSIDE ∷ []) p → Expr s p
+  braces_of (all_token {x = x} e y (all_phrase u all_end)) = let o = u x.word in (o.0, o.1, left_trees (has_tok x (plain_word x (open_brace ∷ []) tt e) (has_rest refl o.2 (has_end _))), o.3)
 
-  fields_in : {p : Parts} → Of (phrase same FIELD ∷ phrase same FIELDS-MORE ∷ closes close-brace ∷ row kinds.RECORD ∷ []) p → Braced s p
+  fields_in : {p : Parts} → Of (phrase same FIELD ∷ phrase same FIELDS_MORE ∷ closes close_brace ∷ row kinds.RECORD ∷ []) p → Braced s p
   fields_in (all_phrase u (all_phrase v (all_token {x = x} e y (all_note all_end)))) c =
       let o = v (top u.0 u.1 nil) c 0 in
-      (_, _, has_sub refl u.2 (has_rest refl o.1 (has_tok x (plain_word x (close-brace ∷ []) tt e) (has_put kinds.RECORD refl refl refl (has_end _)))), record_row s u.0 u.1 o.0 u.3 o.2)
+      (_, _, has_sub refl u.2 (has_rest refl o.1 (has_tok x (plain_word x (close_brace ∷ []) tt e) (has_put kinds.RECORD refl refl refl (has_end _)))), record_row s u.0 u.1 o.0 u.3 o.2)
 
-  statements_in : {p : Parts} → Of (phrase same STATEMENTS ∷ closes close-brace ∷ row kinds.BLOCK ∷ []) p → Braced s p
+  statements_in : {p : Parts} → Of (phrase same STATEMENTS ∷ closes close_brace ∷ row kinds.BLOCK ∷ []) p → Braced s p
   statements_in (all_phrase u (all_token {x = x} e y (all_note all_end))) c =
       let o = u nil c in
-      (_, _, has_rest refl o.2 (has_tok x (plain_word x (close-brace ∷ []) tt e) (has_put kinds.BLOCK refl refl refl (has_end _))), block_row s o.3)
+      (_, _, has_rest refl o.2 (has_tok x (plain_word x (close_brace ∷ []) tt e) (has_put kinds.BLOCK refl refl refl (has_end _))), block_row s o.3)
 
-  field_of : {p : Parts} → Of (phrase same FIELD-NAME ∷ word ':' ∷ phrase same (EXPR records) ∷ row kinds.FIELD ∷ []) p → Tree s (Says s FIELD) p
+  field_of : {p : Parts} → Of (phrase same FIELD_NAME ∷ word ':' ∷ phrase same (EXPR records) ∷ row kinds.FIELD ∷ []) p → Tree s (Says s FIELD) p
   field_of (all_phrase u (all_token {x = x} e y (all_phrase v (all_note all_end)))) = (_, _, left_trees (has_sub refl u.1 (has_tok x (plain_word x (':' ∷ []) tt e) (has_sub refl v.2 (has_put kinds.FIELD refl refl refl (has_end _))))), field_says s u.0 v.0 v.1 u.2 v.3)
 
   -- the four
@@ -190,7 +188,7 @@ module _ (S : Stream) (G : Ask → Counts → Token → Bool) (s : List ℕ) whe
   four_if : {p : Parts} → Of (head 'if' ∷ phrase same (EXPR no_records) ∷ phrase body BLOCK ∷ phrase body ELSE ∷ row kinds.IF ∷ []) p → Expr s p
   four_if t = let o = if_of t in (_, _, o.5, if_row s o.0 o.1 o.6 (row_head kinds.BLOCK o.2 0) o.3 (block_says s o.7) o.4 o.8)
 
-  else_if_of : {p : Parts} → Of (token is_else_if ('if' ∷ []) ∷ phrase same (EXPR no_records) ∷ phrase body BLOCK ∷ phrase body ELSE ∷ row kinds.IF ∷ []) p → Tree s (Says s ELSE-IF) p
+  else_if_of : {p : Parts} → Of (token is_else_if ('if' ∷ []) ∷ phrase same (EXPR no_records) ∷ phrase body BLOCK ∷ phrase body ELSE ∷ row kinds.IF ∷ []) p → Tree s (Says s ELSE_IF) p
   else_if_of t = let o = if_of t in (_, _, o.5, else_if_says s o.0 o.1 o.6 (row_head kinds.BLOCK o.2 0) o.3 (block_says s o.7) o.4 o.8)
 
   four_while : {p : Parts} → Of (head 'while' ∷ phrase same (EXPR no_records) ∷ phrase body BLOCK ∷ row kinds.WHILE ∷ []) p → Expr s p
@@ -199,16 +197,16 @@ module _ (S : Stream) (G : Ask → Counts → Token → Bool) (s : List ℕ) whe
   four_for : {p : Parts} → Of (head 'for' ∷ phrase same NAME ∷ word 'in' ∷ phrase same (EXPR no_records) ∷ phrase body BLOCK ∷ row kinds.FOR ∷ []) p → Expr s p
   four_for (all_token {x = x} e y (all_phrase w (all_token {x = x'} e' y' (all_phrase u (all_phrase v (all_note all_end)))))) = (_, _, left_trees (has_tok x (plain_word x ('for' ∷ []) tt e) (has_sub refl w.1 (has_tok x' (plain_word x' ('in' ∷ []) tt e') (has_sub refl u.2 (has_sub refl v.2 (has_put kinds.FOR refl refl refl (has_end _))))))), for_row s u.0 u.1 u.3 (row_head kinds.BLOCK v.0 0) v.1 (block_says s v.3) w.0 w.2 refl)
 
-  four_match : {p : Parts} → Of (head 'match' ∷ phrase same (EXPR no_records) ∷ opens open-brace ∷ phrase body ARMS ∷ closes close-brace ∷ row kinds.MATCH ∷ []) p → Expr s p
-  four_match (all_token {x = x} e y (all_phrase u (all_token {x = x'} e' y' (all_phrase v (all_token {x = x''} e'' y'' (all_note all_end)))))) = (_, _, left_trees (has_tok x (plain_word x ('match' ∷ []) tt e) (has_sub refl u.2 (has_tok x' (plain_word x' (open-brace ∷ []) tt e') (has_sub refl v.1 (has_tok x'' (plain_word x'' (close-brace ∷ []) tt e'') (has_put kinds.MATCH refl refl refl (has_end _))))))), match_row s u.0 u.1 v.0 u.3 v.2)
+  four_match : {p : Parts} → Of (head 'match' ∷ phrase same (EXPR no_records) ∷ opens open_brace ∷ phrase body ARMS ∷ closes close_brace ∷ row kinds.MATCH ∷ []) p → Expr s p
+  four_match (all_token {x = x} e y (all_phrase u (all_token {x = x'} e' y' (all_phrase v (all_token {x = x''} e'' y'' (all_note all_end)))))) = (_, _, left_trees (has_tok x (plain_word x ('match' ∷ []) tt e) (has_sub refl u.2 (has_tok x' (plain_word x' (open_brace ∷ []) tt e') (has_sub refl v.1 (has_tok x'' (plain_word x'' (close_brace ∷ []) tt e'') (has_put kinds.MATCH refl refl refl (has_end _))))))), match_row s u.0 u.1 v.0 u.3 v.2)
 
-  else_of : {p : Parts} → Of (word 'else' ∷ phrase same ELSE-PART ∷ []) p → Adds s (Else s) p
+  else_of : {p : Parts} → Of (word 'else' ∷ phrase same ELSE_PART ∷ []) p → Adds s (Else s) p
   else_of (all_token {x = x} e y (all_phrase u all_end)) K c v = let o = u K c v in (o.0, has_tok x (plain_word x ('else' ∷ []) tt e) (has_rest refl o.1 (has_end _)), o.2)
 
   else_by_block : {p : Parts} → Of (phrase same BLOCK ∷ []) p → Adds s (Else s) p
   else_by_block (all_phrase u all_end) K c v = (_, has_sub refl u.2 (has_end _), else_block (block_says s u.3))
 
-  else_by_if : {p : Parts} → Of (phrase same ELSE-IF ∷ []) p → Adds s (Else s) p
+  else_by_if : {p : Parts} → Of (phrase same ELSE_IF ∷ []) p → Adds s (Else s) p
   else_by_if (all_phrase u all_end) K c v = (_, has_sub refl u.2 (has_end _), else_if u.3)
 
   -- arms
@@ -218,7 +216,7 @@ module _ (S : Stream) (G : Ask → Counts → Token → Bool) (s : List ℕ) whe
   arms_of : {p : Parts} → Of (phrase same ARM ∷ []) p → Trees s (Arms s) p
   arms_of (all_phrase u all_end) = (u.0, left_trees (has_sub refl u.1 (has_end _)), u.2)
 
-  arm_of : {p : Parts} → Of (phrase same PATTERN ∷ phrase same GUARD ∷ word '=>' ∷ phrase same ARM-BODY ∷ []) p → Trees s (Arms s) p
+  arm_of : {p : Parts} → Of (phrase same PATTERN ∷ phrase same GUARD ∷ word '=>' ∷ phrase same ARM_BODY ∷ []) p → Trees s (Arms s) p
   arm_of (all_phrase u (all_phrase v (all_token {x = x} e y (all_phrase w all_end)))) =
       let o = v (top u.0 u.1 nil) in
       let b = w (beside (top u.0 u.1 nil) o.1) (signed o.2 x.word) o.0 (makes o.4) in
@@ -228,7 +226,7 @@ module _ (S : Stream) (G : Ask → Counts → Token → Bool) (s : List ℕ) whe
       makes not_there h k p = plain_arm u.3 p
       makes (is_there q) h k p = guarded_arm u.3 q p
 
-  body_block : {p : Parts} → Of (phrase same BLOCK ∷ row kinds.ARM ∷ phrase same ARM-COMMA ∷ phrase same ARMS ∷ []) p → Bodied s p
+  body_block : {p : Parts} → Of (phrase same BLOCK ∷ row kinds.ARM ∷ phrase same ARM_COMMA ∷ phrase same ARMS ∷ []) p → Bodied s p
   body_block (all_phrase u (all_note (all_phrase c (all_phrase w all_end)))) K i v f =
       let h = row_head kinds.BLOCK u.0 0 in
       let t = top (row_head kinds.ARM v 0) (beside K (top h u.1 nil)) nil in
@@ -238,7 +236,7 @@ module _ (S : Stream) (G : Ask → Counts → Token → Bool) (s : List ℕ) whe
       go : {g : Grove} → NoTrees g → Arms s (beside (beside (top (row_head kinds.ARM v 0) (beside K (top (row_head kinds.BLOCK u.0 0) u.1 nil)) nil) g) w.0)
       go no_trees = more_arms (f (row_head kinds.BLOCK u.0 0) u.1 (block_row s u.3)) w.2
 
-  body_expr : {p : Parts} → Of (unless (open-brace ∷ []) ∷ phrase same (EXPR records) ∷ row kinds.ARM ∷ phrase same ARM-NEXT ∷ []) p → Bodied s p
+  body_expr : {p : Parts} → Of (unless (open_brace ∷ []) ∷ phrase same (EXPR records) ∷ row kinds.ARM ∷ phrase same ARM_NEXT ∷ []) p → Bodied s p
   body_expr (all_unless (all_phrase u (all_note (all_phrase w all_end)))) K i v f =
       let o = w (top (row_head kinds.ARM v 0) (beside K (top u.0 u.1 nil)) nil) [] in
       (_, o.1, has_sub refl u.2 (has_put kinds.ARM refl refl refl (has_rest refl o.2 (has_end _))), more_arms (f u.0 u.1 u.3) o.3)
@@ -258,7 +256,7 @@ module _ (S : Stream) (G : Ask → Counts → Token → Bool) (s : List ℕ) whe
   guard_of : {p : Parts} → Of (word 'if' ∷ phrase same (EXPR records) ∷ part ∷ []) p → Guarded s p
   guard_of (all_token {x = x} e y (all_phrase u (all_note all_end))) K = (1, _, _, has_tok x (plain_word x ('if' ∷ []) tt e) (has_sub refl u.2 (has_told (has_end _))), is_there u.3)
 
-  pattern_of : {p : Parts} → Of (phrase same VARIANT ∷ phrase same VARIANT-NAMES ∷ []) p → Tree s (Says s PATTERN) p
+  pattern_of : {p : Parts} → Of (phrase same VARIANT ∷ phrase same VARIANT_NAMES ∷ []) p → Tree s (Says s PATTERN) p
   pattern_of (all_phrase u (all_phrase v all_end)) = let o = v u.0 u.2 in (o.0, o.1, left_trees (has_sub refl u.1 (has_rest refl o.2 (has_end _))), o.3)
 
   any_of : {p : Parts} → Of (word underscore ∷ row kinds.ANY ∷ []) p → Tree s (Says s PATTERN) p
@@ -268,32 +266,32 @@ module _ (S : Stream) (G : Ask → Counts → Token → Bool) (s : List ℕ) whe
   variant_none : {p : Parts} → Of (row kinds.VARIANT ∷ []) p → Variants s p
   variant_none (all_note all_end) x m = (_, _, has_put kinds.VARIANT refl refl refl (has_end _), variant_says s x m)
 
-  variant_names : {p : Parts} → Of (opens open-paren ∷ phrase same NAMES ∷ closes close-paren ∷ part ∷ row kinds.VARIANT ∷ []) p → Variants s p
+  variant_names : {p : Parts} → Of (opens open_paren ∷ phrase same NAMES ∷ closes close_paren ∷ part ∷ row kinds.VARIANT ∷ []) p → Variants s p
   variant_names (all_token {x = y} e z (all_phrase u (all_token {x = y'} e' z' (all_note (all_note all_end))))) x m =
       let o = u (top (name_head x) nil nil) y.word 0 in
-      (_, _, has_tok y (plain_word y (open-paren ∷ []) tt e) (has_rest refl o.1 (has_tok y' (plain_word y' (close-paren ∷ []) tt e') (has_told (has_put kinds.VARIANT refl refl refl (has_end _))))), variant_of s x o.0 m o.2)
+      (_, _, has_tok y (plain_word y (open_paren ∷ []) tt e) (has_rest refl o.1 (has_tok y' (plain_word y' (close_paren ∷ []) tt e') (has_told (has_put kinds.VARIANT refl refl refl (has_end _))))), variant_of s x o.0 m o.2)
 
   -- types
   type_none : {p : Parts} → Of (word '!' ∷ row kinds.NEVER ∷ []) p → Tree s (TypeOk s) p
   type_none (all_token {x = x} e y (all_note all_end)) = (_, _, left_trees (has_tok x (plain_word x ('!' ∷ []) tt e) (has_put kinds.NEVER refl refl refl (has_end _))), (never_type s, refl))
 
-  type_unit : {p : Parts} → Of (opens open-paren ∷ closes close-paren ∷ row kinds.UNIT ∷ []) p → Tree s (TypeOk s) p
-  type_unit (all_token {x = x} e y (all_token {x = x'} e' y' (all_note all_end))) = (_, _, left_trees (has_tok x (plain_word x (open-paren ∷ []) tt e) (has_tok x' (plain_word x' (close-paren ∷ []) tt e') (has_put kinds.UNIT refl refl refl (has_end _)))), (unit_type s, refl))
+  type_unit : {p : Parts} → Of (opens open_paren ∷ closes close_paren ∷ row kinds.UNIT ∷ []) p → Tree s (TypeOk s) p
+  type_unit (all_token {x = x} e y (all_token {x = x'} e' y' (all_note all_end))) = (_, _, left_trees (has_tok x (plain_word x (open_paren ∷ []) tt e) (has_tok x' (plain_word x' (close_paren ∷ []) tt e') (has_put kinds.UNIT refl refl refl (has_end _)))), (unit_type s, refl))
 
-  type_record : {p : Parts} → Of (opens open-brace ∷ phrase same TYPED-NAMES ∷ closes close-brace ∷ row kinds.RECORD-TYPE ∷ []) p → Tree s (TypeOk s) p
-  type_record (all_token {x = x} e y (all_phrase u (all_token {x = x'} e' y' (all_note all_end)))) = let o = u nil x.word 0 in (_, _, left_trees (has_tok x (plain_word x (open-brace ∷ []) tt e) (has_rest refl o.1 (has_tok x' (plain_word x' (close-brace ∷ []) tt e') (has_put kinds.RECORD-TYPE refl refl refl (has_end _))))), (record_type s o.0 (listed_params s o.2), refl))
+  type_record : {p : Parts} → Of (opens open_brace ∷ phrase same TYPED_NAMES ∷ closes close_brace ∷ row kinds.RECORD_TYPE ∷ []) p → Tree s (TypeOk s) p
+  type_record (all_token {x = x} e y (all_phrase u (all_token {x = x'} e' y' (all_note all_end)))) = let o = u nil x.word 0 in (_, _, left_trees (has_tok x (plain_word x (open_brace ∷ []) tt e) (has_rest refl o.1 (has_tok x' (plain_word x' (close_brace ∷ []) tt e') (has_put kinds.RECORD_TYPE refl refl refl (has_end _))))), (record_type s o.0 (listed_params s o.2), refl))
 
-  brackets_none : {p : Parts} → Of (row kinds.PATH-TYPE ∷ []) p → On s PathTree (TypeOk s) p
-  brackets_none (all_note all_end) h k q = (_, _, has_put kinds.PATH-TYPE refl refl refl (has_end _), (path_type s h k q, refl))
+  brackets_none : {p : Parts} → Of (row kinds.PATH_TYPE ∷ []) p → On s PathTree (TypeOk s) p
+  brackets_none (all_note all_end) h k q = (_, _, has_put kinds.PATH_TYPE refl refl refl (has_end _), (path_type s h k q, refl))
 
-  brackets_of : {p : Parts} → Of (opens open-bracket ∷ phrase same TYPES ∷ closes close-bracket ∷ part ∷ row kinds.PATH-TYPE ∷ []) p → On s PathTree (TypeOk s) p
-  brackets_of (all_token {x = x} e y (all_phrase u (all_token {x = x'} e' y' (all_note (all_note all_end))))) h k q = let o = u (top h k nil) x.word 0 in (_, _, has_tok x (plain_word x (open-bracket ∷ []) tt e) (has_rest refl o.1 (has_tok x' (plain_word x' (close-bracket ∷ []) tt e') (has_told (has_put kinds.PATH-TYPE refl refl refl (has_end _))))), (list_type s h k o.0 q o.2, refl))
+  brackets_of : {p : Parts} → Of (opens open_bracket ∷ phrase same TYPES ∷ closes close_bracket ∷ part ∷ row kinds.PATH_TYPE ∷ []) p → On s PathTree (TypeOk s) p
+  brackets_of (all_token {x = x} e y (all_phrase u (all_token {x = x'} e' y' (all_note (all_note all_end))))) h k q = let o = u (top h k nil) x.word 0 in (_, _, has_tok x (plain_word x (open_bracket ∷ []) tt e) (has_rest refl o.1 (has_tok x' (plain_word x' (close_bracket ∷ []) tt e') (has_told (has_put kinds.PATH_TYPE refl refl refl (has_end _))))), (list_type s h k o.0 q o.2, refl))
 
-  marks_of : {p : Parts} → Of (word '?' ∷ row kinds.OPTION ∷ phrase same TYPE-MARKS ∷ []) p → On s (TypeOk s) (TypeOk s) p
+  marks_of : {p : Parts} → Of (word '?' ∷ row kinds.OPTION ∷ phrase same TYPE_MARKS ∷ []) p → On s (TypeOk s) (TypeOk s) p
   marks_of (all_token {x = x} e y (all_note (all_phrase v all_end))) h k t = let r = v _ _ (option_type s h k t.0, refl) in (r.0, r.1, has_tok x (plain_word x ('?' ∷ []) tt e) (has_put kinds.OPTION refl refl refl (has_rest refl r.2 (has_end _))), r.3)
 
-  typed_name_of : {p : Parts} → Of (phrase same NAME ∷ word ':' ∷ phrase same TYPE ∷ row kinds.TYPED-NAME ∷ []) p → OfKind s (row_head kinds.TYPED-NAME 0 0) (Says s TYPED-NAME (row_head kinds.TYPED-NAME 0 0)) p
-  typed_name_of (all_phrase u (all_token {x = x} e y (all_phrase v (all_note all_end)))) = (_, left_trees (has_sub refl u.1 (has_tok x (plain_word x (':' ∷ []) tt e) (has_sub refl v.2 (has_put kinds.TYPED-NAME refl refl refl (has_end _))))), typed_name s u.0 v.0 v.1 u.2 v.3.0)
+  typed_name_of : {p : Parts} → Of (phrase same NAME ∷ word ':' ∷ phrase same TYPE ∷ row kinds.TYPED_NAME ∷ []) p → OfKind s (row_head kinds.TYPED_NAME 0 0) (Says s TYPED_NAME (row_head kinds.TYPED_NAME 0 0)) p
+  typed_name_of (all_phrase u (all_token {x = x} e y (all_phrase v (all_note all_end)))) = (_, left_trees (has_sub refl u.1 (has_tok x (plain_word x (':' ∷ []) tt e) (has_sub refl v.2 (has_put kinds.TYPED_NAME refl refl refl (has_end _))))), typed_name s u.0 v.0 v.1 u.2 v.3.0)
 
   type_there : {c : ℕ} {p : Parts} → T (no_text (c ∷ [])) → Of (word c ∷ phrase same TYPE ∷ part ∷ []) p → Parted s (Perhaps s (TypeOk s)) p
   type_there {c = c} t (all_token {x = x} e y (all_phrase u (all_note all_end))) K i = (1, _, has_tok x (plain_word x (c ∷ []) t e) (has_sub refl u.2 (has_told (has_end _))), is_there u.3)
@@ -302,32 +300,32 @@ module _ (S : Stream) (G : Ask → Counts → Token → Bool) (s : List ℕ) whe
   type_absent all_end K c = (0, nil, keep_nil K (c ∷ []) 0, not_there)
 
   -- paths
-  path_of : {p : Parts} → Of (phrase same PATH-ITEM ∷ phrase same PATH-REST ∷ row kinds.PATH ∷ []) p → Tree s PathTree p
+  path_of : {p : Parts} → Of (phrase same PATH_ITEM ∷ phrase same PATH_REST ∷ row kinds.PATH ∷ []) p → Tree s PathTree p
   path_of (all_phrase u (all_phrase v (all_note all_end))) = let o = v (top (name_head u.0) nil nil) [] in (_, _, left_trees (has_sub refl u.1 (has_rest refl o.2 (has_put kinds.PATH refl refl refl (has_end _)))), path u.0 u.2 o.3)
 
-  items_of : {p : Parts} → Of (word dot ∷ phrase same PATH-ITEM ∷ phrase same PATH-REST ∷ []) p → Joins s Items p
+  items_of : {p : Parts} → Of (word dot ∷ phrase same PATH_ITEM ∷ phrase same PATH_REST ∷ []) p → Joins s Items p
   items_of {p = p} (all_token {x = x} e y (all_phrase u (all_phrase v all_end))) K w =
       let o = v (beside K (top (name_head u.0) nil nil)) (signed w x.word) in
       (top (name_head u.0) nil o.0, o.1, subst (λ (t : Grove). Has p (sh K w 0) (sh t o.1 0)) (beside_on K (name_head u.0) nil o.0) (has_tok x (plain_word x (dot ∷ []) tt e) (has_sub refl u.1 (has_rest refl o.2 (has_end _)))), more_items u.0 u.2 o.3)
 
   -- imports
-  import_path_of : {p : Parts} → Of (phrase same PATH-ITEM ∷ phrase same IMPORTPATH-REST ∷ row kinds.IMPORT-PATH ∷ []) p → OfKind s (row_head kinds.IMPORT-PATH 0 0) (Says s IMPORTPATH (row_head kinds.IMPORT-PATH 0 0)) p
-  import_path_of (all_phrase u (all_phrase v (all_note all_end))) = let o = v (top (name_head u.0) nil nil) [] in (_, left_trees (has_sub refl u.1 (has_rest refl o.2 (has_put kinds.IMPORT-PATH refl refl refl (has_end _)))), import_path s u.0 o.0 u.2 o.3)
+  import_path_of : {p : Parts} → Of (phrase same PATH_ITEM ∷ phrase same IMPORTPATH_REST ∷ row kinds.IMPORT_PATH ∷ []) p → OfKind s (row_head kinds.IMPORT_PATH 0 0) (Says s IMPORTPATH (row_head kinds.IMPORT_PATH 0 0)) p
+  import_path_of (all_phrase u (all_phrase v (all_note all_end))) = let o = v (top (name_head u.0) nil nil) [] in (_, left_trees (has_sub refl u.1 (has_rest refl o.2 (has_put kinds.IMPORT_PATH refl refl refl (has_end _)))), import_path s u.0 o.0 u.2 o.3)
 
-  import_dot : {p : Parts} → Of (word dot ∷ phrase same IMPORTPATH-DOT ∷ []) p → Joins s (ImportRest s) p
+  import_dot : {p : Parts} → Of (word dot ∷ phrase same IMPORTPATH_DOT ∷ []) p → Joins s (ImportRest s) p
   import_dot (all_token {x = x} e y (all_phrase v all_end)) K w = let o = v K (signed w x.word) in (o.0, o.1, has_tok x (plain_word x (dot ∷ []) tt e) (has_rest refl o.2 (has_end _)), o.3)
 
-  import_on : {p : Parts} → Of (phrase same PATH-ITEM ∷ phrase same IMPORTPATH-REST ∷ []) p → Joins s (ImportRest s) p
+  import_on : {p : Parts} → Of (phrase same PATH_ITEM ∷ phrase same IMPORTPATH_REST ∷ []) p → Joins s (ImportRest s) p
   import_on {p = p} (all_phrase u (all_phrase v all_end)) K w =
       let o = v (beside K (top (name_head u.0) nil nil)) w in
       (top (name_head u.0) nil o.0, o.1, subst (λ (t : Grove). Has p (sh K w 0) (sh t o.1 0)) (beside_on K (name_head u.0) nil o.0) (has_sub refl u.1 (has_rest refl o.2 (has_end _))), import_item u.0 u.2 o.3)
 
-  group_of : {p : Parts} → Of (opens open-brace ∷ phrase same IMPORTPATHS ∷ closes close-brace ∷ []) p → Joins s (ImportRest s) p
-  group_of (all_token {x = x} e y (all_phrase v (all_token {x = x'} e' y' all_end))) K w = let o = v K (signed w x.word) in (_, _, has_tok x (plain_word x (open-brace ∷ []) tt e) (has_rest refl o.3 (has_tok x' (plain_word x' (close-brace ∷ []) tt e') (has_end _))), import_group o.4 o.5)
+  group_of : {p : Parts} → Of (opens open_brace ∷ phrase same IMPORTPATHS ∷ closes close_brace ∷ []) p → Joins s (ImportRest s) p
+  group_of (all_token {x = x} e y (all_phrase v (all_token {x = x'} e' y' all_end))) K w = let o = v K (signed w x.word) in (_, _, has_tok x (plain_word x (open_brace ∷ []) tt e) (has_rest refl o.3 (has_tok x' (plain_word x' (close_brace ∷ []) tt e') (has_end _))), import_group o.4 o.5)
 
-  import_paths : {p : Parts} → Of (phrase same IMPORTPATH ∷ phrase same IMPORTPATHS-MORE ∷ []) p → PathsOf s p
+  import_paths : {p : Parts} → Of (phrase same IMPORTPATH ∷ phrase same IMPORTPATHS_MORE ∷ []) p → PathsOf s p
   import_paths {p = p} (all_phrase u (all_phrase v all_end)) K w =
-      let h = row_head kinds.IMPORT-PATH 0 0 in
+      let h = row_head kinds.IMPORT_PATH 0 0 in
       let o = v (beside K (top h u.0 nil)) w in
       (u.0, o.0, o.1, subst (λ (t : Grove). Has p (sh K w 0) (sh t o.1 0)) (beside_on K h u.0 o.0) (has_sub refl u.1 (has_rest refl o.2 (has_end _))), u.2, o.3)
 
@@ -341,8 +339,8 @@ module _ (S : Stream) (G : Ask → Counts → Token → Bool) (s : List ℕ) whe
   import_of (all_token {x = x} e y (all_phrase u (all_token {x = x'} e' y' all_end))) = (u.0, left_trees (has_tok x (plain_word x ('import' ∷ []) tt e) (has_sub refl u.1 (has_tok x' (plain_word x' (semicolon ∷ []) tt e') (has_end _)))), u.2)
 
   -- blocks
-  block_of : {p : Parts} → Of (opens open-brace ∷ phrase same STATEMENTS ∷ closes close-brace ∷ row kinds.BLOCK ∷ []) p → BlockOf s p
-  block_of (all_token {x = x} e y (all_phrase u (all_token {x = x'} e' y' (all_note all_end)))) = let o = u nil x.word in (o.0, o.1, left_trees (has_tok x (plain_word x (open-brace ∷ []) tt e) (has_rest refl o.2 (has_tok x' (plain_word x' (close-brace ∷ []) tt e') (has_put kinds.BLOCK refl refl refl (has_end _))))), o.3)
+  block_of : {p : Parts} → Of (opens open_brace ∷ phrase same STATEMENTS ∷ closes close_brace ∷ row kinds.BLOCK ∷ []) p → BlockOf s p
+  block_of (all_token {x = x} e y (all_phrase u (all_token {x = x'} e' y' (all_note all_end)))) = let o = u nil x.word in (o.0, o.1, left_trees (has_tok x (plain_word x (open_brace ∷ []) tt e) (has_rest refl o.2 (has_tok x' (plain_word x' (close_brace ∷ []) tt e') (has_put kinds.BLOCK refl refl refl (has_end _))))), o.3)
 
   stmts_none : {p : Parts} → Of [] p → Parted s (Stmts s) p
   stmts_none all_end K c = (0, nil, keep_nil K (c ∷ []) 0, no_stmts)
@@ -362,10 +360,10 @@ module _ (S : Stream) (G : Ask → Counts → Token → Bool) (s : List ℕ) whe
       let o = v (beside K (top h u.1 nil)) c in
       (o.0, top h u.1 o.1, subst (λ (t : Grove). Has p (mid K c 0) (mid t c o.0)) (beside_on K h u.1 o.1) (has_sub refl u.2 (has_rest refl o.2 (has_end _))), by_let u.3 o.3)
 
-  stmt_four : {p : Parts} → Of (phrase same FOUR ∷ phrase same AFTER-FOUR ∷ []) p → Parted s (Stmts s) p
+  stmt_four : {p : Parts} → Of (phrase same FOUR ∷ phrase same AFTER_FOUR ∷ []) p → Parted s (Stmts s) p
   stmt_four (all_phrase u (all_phrase v all_end)) K c = let o = v K c u.0 u.1 u.3 in (o.0, top u.0 u.1 o.1, has_sub refl u.2 (has_rest refl o.2 (has_end _)), o.3)
 
-  stmt_expr : {p : Parts} → Of (unless four_words ∷ phrase same (EXPR records) ∷ phrase same AFTER-EXPR ∷ []) p → Parted s (Stmts s) p
+  stmt_expr : {p : Parts} → Of (unless four_words ∷ phrase same (EXPR records) ∷ phrase same AFTER_EXPR ∷ []) p → Parted s (Stmts s) p
   stmt_expr (all_unless (all_phrase u (all_phrase v all_end))) K c = let o = v K c u.0 u.1 u.3 in (o.0, top u.0 u.1 o.1, has_sub refl u.2 (has_rest refl o.2 (has_end _)), o.3)
 
   after_last : {p : Parts} → Of (part ∷ []) p → After s p
@@ -381,7 +379,7 @@ module _ (S : Stream) (G : Ask → Counts → Token → Bool) (s : List ℕ) whe
       let o = v (beside K (top h k nil)) c in
       (o.0, o.1, subst (λ (t : Grove). Has p (mid (beside K (top h k nil)) c 0) (mid t c o.0)) (beside_on K h k o.1) (has_rest refl o.2 (has_end _)), by_expr q o.3)
 
-  let_of : {p : Parts} → Of (word 'let' ∷ phrase same NAME ∷ phrase same LET-TYPE ∷ word '=' ∷ phrase same (EXPR records) ∷ word semicolon ∷ row kinds.LET ∷ []) p → LetOf s p
+  let_of : {p : Parts} → Of (word 'let' ∷ phrase same NAME ∷ phrase same LET_TYPE ∷ word '=' ∷ phrase same (EXPR records) ∷ word semicolon ∷ row kinds.LET ∷ []) p → LetOf s p
   let_of (all_token {x = x} e y (all_phrase u (all_phrase v (all_token {x = x'} e' y' (all_phrase w (all_token {x = x''} e'' y'' (all_note all_end))))))) =
       let o = v (top (name_head u.0) nil nil) x.word in
       (o.0, _, left_trees (has_tok x (plain_word x ('let' ∷ []) tt e) (has_sub refl u.1 (has_rest refl o.2 (has_tok x' (plain_word x' ('=' ∷ []) tt e') (has_sub refl w.2 (has_tok x'' (plain_word x'' (semicolon ∷ []) tt e'') (has_put kinds.LET refl refl refl (has_end _)))))))), go o.3)
@@ -416,8 +414,8 @@ module _ (S : Stream) (G : Ask → Counts → Token → Bool) (s : List ℕ) whe
   import_decl : {p : Parts} → Of (phrase same IMPORT ∷ []) p → Tree s (Says s DECLARATION) p
   import_decl (all_phrase u all_end) = (_, _, left_trees (has_sub refl u.1 (has_end _)), import_declared s u.0 u.2)
 
-  params_of : {p : Parts} → Of (opens open-paren ∷ phrase same TYPED-NAMES ∷ closes close-paren ∷ []) p → Adds s (Params s) p
-  params_of (all_token {x = x} e y (all_phrase u (all_token {x = x'} e' y' all_end))) K c v = let o = u K c v in (o.0, has_tok x (plain_word x (open-paren ∷ []) tt e) (has_rest refl o.1 (has_tok x' (plain_word x' (close-paren ∷ []) tt e') (has_end _))), o.2)
+  params_of : {p : Parts} → Of (opens open_paren ∷ phrase same TYPED_NAMES ∷ closes close_paren ∷ []) p → Adds s (Params s) p
+  params_of (all_token {x = x} e y (all_phrase u (all_token {x = x'} e' y' all_end))) K c v = let o = u K c v in (o.0, has_tok x (plain_word x (open_paren ∷ []) tt e) (has_rest refl o.1 (has_tok x' (plain_word x' (close_paren ∷ []) tt e') (has_end _))), o.2)
 
   decls_of : {p : Parts} → Of (phrase same DECLARATION ∷ phrase same DECLARATIONS ∷ []) p → Joins s (Declared s) p
   decls_of {p = p} (all_phrase u (all_phrase v all_end)) K w =
@@ -428,9 +426,9 @@ module _ (S : Stream) (G : Ask → Counts → Token → Bool) (s : List ℕ) whe
   tree_of (all_phrase v all_end) = let o = v nil [] in (o.0, left_trees (has_rest refl o.2 (has_end _)), o.3)
 
   -- params are names with types
-  param_on : {p : Parts} → Of (phrase same TYPED-NAME ∷ phrase same TYPED-NAMES-MORE ∷ []) p → Adds s (Params s) p
+  param_on : {p : Parts} → Of (phrase same TYPED_NAME ∷ phrase same TYPED_NAMES_MORE ∷ []) p → Adds s (Params s) p
   param_on {p = p} (all_phrase u (all_phrase v all_end)) K c i =
-      let h = row_head kinds.TYPED-NAME 0 0 in
+      let h = row_head kinds.TYPED_NAME 0 0 in
       let o = v (beside K (top h u.0 nil)) c i in
       (top h u.0 o.0, subst (λ (t : Grove). Has p (mid K c i) (mid t c i)) (beside_on K h u.0 o.0) (has_sub refl u.1 (has_rest refl o.1 (has_end _))), more_params u.2 o.2)
 
@@ -448,12 +446,12 @@ module _ (S : Stream) (G : Ask → Counts → Token → Bool) (s : List ℕ) whe
 
   -- a string with expressions inside is handed in
   abbrev pub text_alternative : List Symbol
-  text_alternative = word f-quote ∷ text HOLE ∷ row kinds.F-STRING ∷ []
+  text_alternative = word f_quote ∷ text HOLE ∷ row kinds.F_STRING ∷ []
 
   abbrev pub C : ℕ → List Symbol → Type 0
   C n a = (p : Parts) → Once S l G Knows P a p → Of a p → P n a p
 
-  module _ (texts : C F-STRING text_alternative) where
+  module _ (texts : C F_STRING text_alternative) where
     among : (w : List ℕ) → Each (λ c. T (one_of c binary_signs)) w → (c : ℕ) → T (one_of c w) → T (one_of c binary_signs)
     among w h c m = each_of (λ c. T (one_of c binary_signs)) w c m h
 

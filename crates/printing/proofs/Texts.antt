@@ -4,10 +4,10 @@ use mathlib.Core.List.{List, [], ◌∷◌, ◌++◌, append_assoc, append-nil}
 use mathlib.Core.Bool.{Bool, true, false, not, ◌||◌, ◌&&◌, cond}
 use Prim.Native.Nat.{ℕ, zero, suc}
 use lib.Dec.{T, eqb, eqb→eq}
-use Rattle.rows.specs.Kinds.{kinds}
-use Rattle.grammar.specs.Words.{words}
+use Rattle.rows.specs.Kinds as kinds
+use Rattle.grammar.specs.Words.{f_quote, last_text, text_then_hole}
 use Rattle.grammar.specs.Grammar.{Ask, In, Look, Parts, Stream, Symbol, Token, alternatives, end, found, has_value, here, leaf, left_side, mark, node, note, one_of, over, phrase, same, text, there, token, unless}
-use Rattle.grammar.specs.Kinds.{phrases}
+use Rattle.grammar.specs.Kinds.{F_STRING, HOLE}
 use Rattle.grammar.specs.Limits.{Counts}
 use Rattle.grammar.specs.Readings.{ReadingBy, peek, reads_end, reads_note, reads_phrase, reads_side, reads_text, reads_token, reads_unless, word_of_lem}
 use Rattle.grammar.specs.Table.{row, rest_kinds}
@@ -25,8 +25,6 @@ use Rattle.printing.proofs.Exprs.{f_string_row, text_row_head}
 use Rattle.printing.proofs.Back.{Once, all_end, all_note, all_phrase, all_text, all_token}
 use Rattle.printing.proofs.Claims.{Expr, Knows}
 use Rattle.printing.proofs.Steps.{C, Of, P, text_alternative}
-open words use {f-quote, last-text, text-then-hole}
-open phrases use {F-STRING, HOLE}
 
 -- what grows has read just these
 pub grown_read : (p : Parts) (a : State) → (grow p a).read ≡ a.read ++ leaves p
@@ -82,7 +80,7 @@ module _ (S : Stream) (G : Ask → Counts → Token → Bool) where
   -- values are held, and a piece of text has a word of its own
   pub record Sure : Type 0 where
     pub holds : (g : Ask) (d d' : Counts) (x : Token) → T (G g d x) → T (held g d' x)
-    pub pieces : (i j : S.Place) (x : Token) → S.piece i ≡ found x j → T (one_of x.word (text-then-hole ∷ last-text ∷ []))
+    pub pieces : (i j : S.Place) (x : Token) → S.piece i ≡ found x j → T (one_of x.word (text_then_hole ∷ last_text ∷ []))
 
   record Begun (i : S.Place) (p : Parts) : Type 0 where
     first : Token
@@ -115,10 +113,10 @@ module _ (S : Stream) (G : Ask → Counts → Token → Bool) where
       λ d. reads_unless (subst (λ (c : List Token). T (not (one_of (peek lists l (c ++ z)) ws))) (sym b.are) (subst (λ (k : Look S.Place). T (not (one_of (word_of_lem S l k) ws))) b.looks m)) (relisted w u (and_r (solid 14 t) (okay t) h) z d)
   relisted w (reads_note u) h z = λ d. reads_note (relisted w u h z d)
   relisted w (reads_side {n = n} {n₁ = n₁} {a = a} {s = t} {p = p} {q = q} i u m v) h z = subst (λ (c : List Token). Read (left_side n n₁ ∷ t) c z (node n a p q)) (sym (append_assoc (leaves p) (leaves q) z)) (λ d. reads_side i (relisted w u (passes_at (λ n a. okay a) l.rules n all_okay i) (leaves q ++ z) d) tt (relisted w v (okay_if (l.is_path p) n₁ t h) z d))
-  relisted w (reads_text {d = d} {n = n} {s = t} {x = x} {i = i} {j = j} {p = p} e k u) h z = λ d'. reads_text (ap (λ (b : Bool). cond b (found x (leaves p ++ z)) over) (T→eq (one_of x.word (text-then-hole ∷ last-text ∷ [])) (w.pieces i j x e))) (w.holds has_value d d' x k) (relisted w u (okay_if (eqb x.word l.hole) n t h) z _)
+  relisted w (reads_text {d = d} {n = n} {s = t} {x = x} {i = i} {j = j} {p = p} e k u) h z = λ d'. reads_text (ap (λ (b : Bool). cond b (found x (leaves p ++ z)) over) (T→eq (one_of x.word (text_then_hole ∷ last_text ∷ [])) (w.pieces i j x e))) (w.holds has_value d d' x k) (relisted w u (okay_if (eqb x.word l.hole) n t h) z _)
 
   module _ (s : List ℕ) (w : Sure) where
-    copied_text : {p : Parts} (x : Token) (v : ℕ) (k : Grove) → T (one_of x.word (f-quote ∷ [])) → (q : Parts) → leaf x q ≡ p → Once S l G Knows (P S G s) (text_alternative S G s) p → (grow p fresh).kids ≡ top (text_row_head v (leaves p)) k nil → Expr s p
+    copied_text : {p : Parts} (x : Token) (v : ℕ) (k : Grove) → T (one_of x.word (f_quote ∷ [])) → (q : Parts) → leaf x q ≡ p → Once S l G Knows (P S G s) (text_alternative S G s) p → (grow p fresh).kids ≡ top (text_row_head v (leaves p)) k nil → Expr s p
     unfolding roto
     copied_text {p} x v k i q e o h = (
       text_row_head v (leaves p),
@@ -126,25 +124,25 @@ module _ (S : Stream) (G : Ask → Counts → Token → Bool) where
       h,
       f_string_row s v (leaves p) k (record {
         reads = λ y. record { alt = _; takes = here; parts = p; reads = relisted w o.3 tt y; leaves = h };
-        quote = λ y. subst (λ (t : Parts). peek lists l (leaves t ++ y) ≡ f-quote) e (eqb→eq x.word f-quote (elim (or_cases (eqb x.word f-quote) false i) [ inl t ↦ t | inr t ↦ absurd t ]));
+        quote = λ y. subst (λ (t : Parts). peek lists l (leaves t ++ y) ≡ f_quote) e (eqb→eq x.word f_quote (elim (or_cases (eqb x.word f_quote) false i) [ inl t ↦ t | inr t ↦ absurd t ]));
       }),
     )
 
-    noted_text : (a : State) (ts : List Token) → a.read ≡ ts → (noted kinds.F-STRING a).kids ≡ top (text_row_head a.part ts) a.kids nil
+    noted_text : (a : State) (ts : List Token) → a.read ≡ ts → (noted kinds.F_STRING a).kids ≡ top (text_row_head a.part ts) a.kids nil
     noted_text a ts e = ap (λ (t : List Token). top (text_row_head a.part t) a.kids nil) e
 
-    text_hole : (x x' : Token) (q : Parts) → T (one_of x.word (f-quote ∷ [])) → Once S l G Knows (P S G s) (text_alternative S G s) (leaf x (leaf x' q)) → Of S G s (phrase same HOLE ∷ row kinds.F-STRING ∷ []) q → Expr s (leaf x (leaf x' q))
+    text_hole : (x x' : Token) (q : Parts) → T (one_of x.word (f_quote ∷ [])) → Once S l G Knows (P S G s) (text_alternative S G s) (leaf x (leaf x' q)) → Of S G s (phrase same HOLE ∷ row kinds.F_STRING ∷ []) q → Expr s (leaf x (leaf x' q))
     unfolding grow
     text_hole x x' q i o (all_phrase {a = a} {p = q'} v (all_note all_end)) = copied_text x _ _ i _ refl o (noted_text (grow q' (add x' (add x fresh))) (x ∷ x' ∷ (leaves q' ++ [])) (grown_read (leaf x (leaf x' (node HOLE a q' end))) fresh))
 
-    text_last : (x x' : Token) (q : Parts) → T (one_of x.word (f-quote ∷ [])) → Once S l G Knows (P S G s) (text_alternative S G s) (leaf x (leaf x' q)) → Of S G s (row kinds.F-STRING ∷ []) q → Expr s (leaf x (leaf x' q))
+    text_last : (x x' : Token) (q : Parts) → T (one_of x.word (f_quote ∷ [])) → Once S l G Knows (P S G s) (text_alternative S G s) (leaf x (leaf x' q)) → Of S G s (row kinds.F_STRING ∷ []) q → Expr s (leaf x (leaf x' q))
     unfolding grow
     text_last x x' q i o (all_note all_end) = copied_text x _ _ i _ refl o (noted_text (add x' (add x fresh)) (x ∷ x' ∷ []) (grown_read (leaf x (leaf x' end)) fresh))
 
-    pub texts : C S G s F-STRING (text_alternative S G s)
+    pub texts : C S G s F_STRING (text_alternative S G s)
     unfolding roto
-    texts p o (all_token {x = x} i y (all_text {x = x'} {p = q} z u)) = go (eqb x'.word text-then-hole) u
+    texts p o (all_token {x = x} i y (all_text {x = x'} {p = q} z u)) = go (eqb x'.word text_then_hole) u
       where
-        go : (b : Bool) → Of S G s (cond b (phrase same HOLE ∷ row kinds.F-STRING ∷ []) (row kinds.F-STRING ∷ [])) q → Expr s (leaf x (leaf x' q))
+        go : (b : Bool) → Of S G s (cond b (phrase same HOLE ∷ row kinds.F_STRING ∷ []) (row kinds.F_STRING ∷ [])) q → Expr s (leaf x (leaf x' q))
         go true w = text_hole x x' q i o w
         go false w = text_last x x' q i o w

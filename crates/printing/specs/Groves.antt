@@ -1,8 +1,8 @@
 -- Trees that keep the tokens of what is copied: the tree that a reading leaves, and a tree's tokens at a place.
 use Rattle.std.specs.Prelude.{List, [], ◌∷◌, ◌++◌, Bool, true, false, cond, ℕ, zero, suc, ◌+◌, T, eqb}
 use Rattle.std.proofs.Math.Seq.{slice}
-use Rattle.rows.specs.Kinds.{kinds}
-use Rattle.grammar.specs.Words.{words as the-words}
+use Rattle.rows.specs.Kinds as kinds
+use Rattle.grammar.specs.Words.{open_paren, close_paren}
 use Rattle.grammar.specs.Grammar.{Token, Parts, end, leaf, node, mark, one_of}
 use Rattle.grammar.specs.Table.{rest_kinds, literal_row}
 use Rattle.grammar.specs.Rows.{detail_for, is_text}
@@ -10,7 +10,6 @@ use Rattle.canon.specs.Trees.{Label, Forest, none, tree, copied}
 use Rattle.canon.specs.Layout.{Place, needs, empty, Slot, layout}
 use Rattle.canon.specs.Text.{Bit, copy, signs, inner, place_of, words_of, later}
 use Rattle.printing.specs.Pairs.{Choice, no_choice, choice, number, under, after, expr_at, within, served, in_pairs}
-open the-words use {open-paren, close-paren}
 
 -- A row of a tree; the tokens of one that is copied.
 pub record Head : Type 0 where
@@ -124,7 +123,7 @@ ends (x ∷ y ∷ xs) = ends (y ∷ xs)
 
 -- the bytes of what is copied; the tree of labels
 abbrev pub bytes_of : List ℕ → ℕ → List Token → List ℕ
-bytes_of s k ts = let t = slice (starts ts) (cond (eqb k kinds.F-STRING) (ends ts + 1) (ends ts)) s in cond (one_of k copied) t []
+bytes_of s k ts = let t = slice (starts ts) (cond (eqb k kinds.F_STRING) (ends ts + 1) (ends ts)) s in cond (one_of k copied) t []
 
 abbrev pub label_of : List ℕ → Head → Label
 label_of s h = record { kind = h.kind; value = h.value; detail = h.detail; text = bytes_of s h.kind h.tokens }
@@ -135,7 +134,7 @@ labelled s (top h k t) = tree (label_of s h) (labelled s k) (labelled s t)
 
 abbrev pub pairs : ℕ → (List Token → List Token) → List Token → List Token
 pairs zero f z = f z
-pairs (suc n) f z = token_of open-paren ∷ pairs n f (token_of close-paren ∷ z)
+pairs (suc n) f z = token_of open_paren ∷ pairs n f (token_of close_paren ∷ z)
 
 -- the pairs round the first of these trees, which is the first of a row of kind o or not: none where the table has no expr
 abbrev pub pairs_at : List ℕ → ℕ → Bool → Head → Grove → Choice → ℕ

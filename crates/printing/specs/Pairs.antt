@@ -1,12 +1,11 @@
 -- A choice of pairs of parentheses for the rows of trees, and where the table has an expr, round which a pair may stand.
 use Rattle.std.specs.Prelude.{List, [], ◌∷◌, ◌++◌, Bool, true, not, ◌&&◌, ◌||◌, ℕ, zero, suc, eqb}
-use Rattle.rows.specs.Kinds.{kinds}
-use Rattle.grammar.specs.Words.{words}
+use Rattle.rows.specs.Kinds as kinds
+use Rattle.grammar.specs.Words.{open_paren, close_paren}
 use Rattle.grammar.specs.Grammar.{one_of}
 use Rattle.canon.specs.Trees.{Label, Forest}
 use Rattle.canon.specs.Layout.{Place, whole, needs, is_four, is_expr}
 use Rattle.canon.specs.Text.{Bit, sign}
-open words use {open-paren, close-paren}
 
 -- Trees in a row: the pairs round the first, those under it, those after it.
 pub data Choice : Type 0 where
@@ -29,7 +28,7 @@ after (choice n k t) = t
 -- statement and a block as an arm's body are no exprs there. An f-string is copied, with the pairs in it.)
 abbrev pub expr_at : ℕ → Bool → Bool → ℕ → Bool
 expr_at k first last j =
-    one_of k (kinds.BINARY ∷ kinds.NOT ∷ kinds.NEGATE ∷ kinds.CALL ∷ kinds.QUESTION ∷ kinds.ASSIGN ∷ kinds.RETURN ∷ kinds.F-STRING ∷ [])
+    one_of k (kinds.BINARY ∷ kinds.NOT ∷ kinds.NEGATE ∷ kinds.CALL ∷ kinds.QUESTION ∷ kinds.ASSIGN ∷ kinds.RETURN ∷ kinds.F_STRING ∷ [])
     || ((one_of k (kinds.ACCESS ∷ kinds.IF ∷ kinds.WHILE ∷ kinds.MATCH ∷ []) && first)
     || ((one_of k (kinds.FIELD ∷ kinds.LET ∷ kinds.CONST ∷ []) && last)
     || ((one_of k (kinds.FOR ∷ kinds.ARM ∷ []) && (not first && not (last && eqb j kinds.BLOCK)))
@@ -47,4 +46,4 @@ served (suc n) c a kids = true
 -- tokens in pairs
 abbrev pub in_pairs : ℕ → List Bit → List Bit
 in_pairs zero xs = xs
-in_pairs (suc n) xs = sign open-paren ∷ (in_pairs n xs ++ (sign close-paren ∷ []))
+in_pairs (suc n) xs = sign open_paren ∷ (in_pairs n xs ++ (sign close_paren ∷ []))

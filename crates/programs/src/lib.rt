@@ -1,7 +1,4 @@
-// What the programs behind the commands share: how they are asked, the room that they have, and how they end. Promises what a
-// command ends with, and else nothing but to be safe and to end.
-ghost use Rattle.std.specs.Prelude.{◌≡◌};
-ghost use Rattle.programs.specs.Endings.{ending_of};
+// What the programs behind the commands share: how they are asked, the room that they have, and how they end. Promises nothing but to be safe and to end.
 
 // What a command ends with.
 pub const ACCEPTED: u8 = b'0';
@@ -49,24 +46,16 @@ pub fn unread() -> bool {
     true
 }
 
-// What a command ends with behind an answer that was written, or couldn't be.
-fn ending(unwritten: bool, accepted: bool) -> u8
-    ensures { result ≡ ending_of unwritten accepted }
-{
-    if unwritten {
-        return FAILED;
-    }
-    if accepted {
-        return ACCEPTED;
-    }
-    REFUSED
-}
-
 // The end of a program that accepted or refused what it read, and wrote its answer: an error that is known now is one of writing.
 pub fn end(accepted: bool) {
-    let unwritten = os::errno() != 0;
-    if unwritten {
+    if os::errno() != 0 {
         os::fail(b"standard output");
+        status(FAILED);
+        return;
     }
-    status(ending(unwritten, accepted));
+    if accepted {
+        status(ACCEPTED);
+    } else {
+        status(REFUSED);
+    }
 }

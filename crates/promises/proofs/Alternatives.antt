@@ -7,11 +7,11 @@ use mathlib.Core.Option.{none, some}
 use mathlib.Core.Logic.{◌⊎◌, inl, inr, ◌≢◌}
 use Prim.Native.Nat.{ℕ}
 use lib.Dec.{T, eqb, eqb→eq}
-use Rattle.rows.specs.Kinds.{kinds}
-use Rattle.grammar.specs.Words.{names, path_items, literals, assign_signs, compare_signs, sum_signs, product_signs, return_words, filter_words, four_words, words}
+use Rattle.rows.specs.Kinds as kinds
+use Rattle.grammar.specs.Words.{name, underscore, f_quote, '=>', '&&', '||', '->', open_brace, close_brace, open_paren, close_paren, open_bracket, close_bracket, ':', semicolon, comma, dot, '=', '?', '!', '-', 'const', 'else', 'for', 'fn', 'if', 'import', 'in', 'let', 'match', 'pkg', 'dep', 'super', 'std', 'test', 'while', names, path_items, literals, assign_signs, compare_signs, sum_signs, product_signs, return_words, filter_words, four_words}
 use Rattle.grammar.specs.Grammar.{is_else_if, Symbol, token, unless, left_side, found, one as one_seen, pair, one_of}
 use Rattle.grammar.specs.Table.{word, one, opens, closes, prefix, head, literal, a, behind, nothing, row, literal_row, part, rest_kinds}
-use Rattle.grammar.specs.Kinds.{records, no_records, phrases}
+use Rattle.grammar.specs.Kinds.{records, no_records, TREE, DECLARATIONS, DECLARATION, PARAMS, RESULT, TYPED_NAMES, TYPED_NAMES_MORE, TYPED_NAME, NAME, IMPORT, IMPORTED, IMPORTPATH, IMPORTPATH_REST, IMPORTPATH_DOT, IMPORTPATHS, IMPORTPATHS_MORE, PATH_ITEM, PATH, PATH_REST, TYPE, TYPE_MARKS, TYPE_BASE, TYPE_BRACKETS, TYPES, TYPES_MORE, BLOCK, STATEMENTS, STATEMENT, AFTER_FOUR, AFTER_EXPR, LET, LET_TYPE, LITERAL, F_STRING, PARENS, BRACES, BRACES_INSIDE, FIELDS, FIELDS_MORE, FIELD, FIELD_NAME, EXPRS, EXPRS_MORE, FOUR, ELSE, ELSE_PART, ELSE_IF, ARMS, ARM, ARM_BODY, ARM_NEXT, ARM_COMMA, GUARD, PATTERN, VARIANT, VARIANT_NAMES, NAMES, NAMES_MORE, EXPR, RETURNED, ASSIGNED, BINARY, OR_MORE, AND, AND_MORE, COMPARE, COMPARE_MORE, SUM, SUM_MORE, PRODUCT, PRODUCT_MORE, OPERAND, POSTFIX, AFTER_PATH}
 use Rattle.grammar.specs.Language.{roto}
 use Rattle.grammar.specs.Choice.{flag, chosen}
 use Rattle.grammar.specs.Readings.{peek}
@@ -25,19 +25,17 @@ use Rattle.parser.specs.Going.{language, token_of, Stands}
 use Rattle.parser.proofs.Standing.{peeks, is_token, goes_past, solid_word, the_word}
 use Rattle.parser.proofs.Picks.{On, Off}
 use Rattle.promises.specs.Firsts.{operand_firsts, expr_firsts, type_firsts, statement_firsts, declaration_firsts, postfix_signs}
-open words use {name, underscore, f-quote, '=>', '&&', '||', '->', open-brace, close-brace, open-paren, close-paren, open-bracket, close-bracket, ':', semicolon, comma, dot, '=', '?', '!', '-', 'const', 'else', 'for', 'fn', 'if', 'import', 'in', 'let', 'match', 'pkg', 'dep', 'super', 'std', 'test', 'while'}
-open phrases use {TREE, DECLARATIONS, DECLARATION, PARAMS, RESULT, TYPED-NAMES, TYPED-NAMES-MORE, TYPED-NAME, NAME, IMPORT, IMPORTED, IMPORTPATH, IMPORTPATH-REST, IMPORTPATH-DOT, IMPORTPATHS, IMPORTPATHS-MORE, PATH-ITEM, PATH, PATH-REST, TYPE, TYPE-MARKS, TYPE-BASE, TYPE-BRACKETS, TYPES, TYPES-MORE, BLOCK, STATEMENTS, STATEMENT, AFTER-FOUR, AFTER-EXPR, LET, LET-TYPE, LITERAL, F-STRING, PARENS, BRACES, BRACES-INSIDE, FIELDS, FIELDS-MORE, FIELD, FIELD-NAME, EXPRS, EXPRS-MORE, FOUR, ELSE, ELSE-PART, ELSE-IF, ARMS, ARM, ARM-BODY, ARM-NEXT, ARM-COMMA, GUARD, PATTERN, VARIANT, VARIANT-NAMES, NAMES, NAMES-MORE, EXPR, RETURNED, ASSIGNED, BINARY, OR-MORE, AND, AND-MORE, COMPARE, COMPARE-MORE, SUM, SUM-MORE, PRODUCT, PRODUCT-MORE, OPERAND, POSTFIX, AFTER-PATH}
 
 -- what an expr begins with that begins with none of the four words; with no `{`
 abbrev pub plain_firsts : List ℕ
-plain_firsts = return_words ++ ('!' ∷ '-' ∷ open-paren ∷ open-brace ∷ f-quote ∷ (literals ++ path_items))
+plain_firsts = return_words ++ ('!' ∷ '-' ∷ open_paren ∷ open_brace ∷ f_quote ∷ (literals ++ path_items))
 
 abbrev pub braceless : List ℕ
-braceless = return_words ++ ('!' ∷ '-' ∷ open-paren ∷ f-quote ∷ (literals ++ (path_items ++ four_words)))
+braceless = return_words ++ ('!' ∷ '-' ∷ open_paren ∷ f_quote ∷ (literals ++ (path_items ++ four_words)))
 
 -- what stands behind the `{` of a block, but for a name
 abbrev pub inside_firsts : List ℕ
-inside_firsts = close-brace ∷ 'import' ∷ 'let' ∷ (return_words ++ ('!' ∷ '-' ∷ open-paren ∷ open-brace ∷ f-quote ∷ 'pkg' ∷ 'dep' ∷ 'super' ∷ 'std' ∷ (literals ++ four_words)))
+inside_firsts = close_brace ∷ 'import' ∷ 'let' ∷ (return_words ++ ('!' ∷ '-' ∷ open_paren ∷ open_brace ∷ f_quote ∷ 'pkg' ∷ 'dep' ∷ 'super' ∷ 'std' ∷ (literals ++ four_words)))
 
 abbrev covers : List ℕ → List ℕ → Bool
 covers [] v = true
@@ -65,35 +63,35 @@ pub plain_first : (x : ℕ) → T (one_of x expr_firsts) → (T (one_of x four_w
 plain_first x = but_for x expr_firsts four_words plain_firsts tt
 
 pub brace_less : (x : ℕ) → T (one_of x expr_firsts) → x ≢ 40 → T (one_of x braceless)
-brace_less x m n = but_for x expr_firsts (open-brace ∷ []) braceless tt m (λ k. n (the_word {x = x} {c = 40} k))
+brace_less x m n = but_for x expr_firsts (open_brace ∷ []) braceless tt m (λ k. n (the_word {x = x} {c = 40} k))
 
 -- TYPED-NAMES
 abbrev pub typed_names_is : List Symbol
-typed_names_is = a TYPED-NAME ∷ a TYPED-NAMES-MORE ∷ []
+typed_names_is = a TYPED_NAME ∷ a TYPED_NAMES_MORE ∷ []
 
-pub typed_names_on : On TYPED-NAMES (some typed_names_is) names
+pub typed_names_on : On TYPED_NAMES (some typed_names_is) names
 unfolding roto picks_on
 typed_names_on = record { computed = tt }
 
-pub typed_names_off : Off TYPED-NAMES (some nothing) names
+pub typed_names_off : Off TYPED_NAMES (some nothing) names
 unfolding roto picks_off
 typed_names_off = record { computed = tt }
 
 -- TYPED-NAMES-MORE
 abbrev pub typed_names_more_is : List Symbol
-typed_names_more_is = word comma ∷ a TYPED-NAMES ∷ []
+typed_names_more_is = word comma ∷ a TYPED_NAMES ∷ []
 
-pub typed_names_more_on : On TYPED-NAMES-MORE (some typed_names_more_is) (comma ∷ [])
+pub typed_names_more_on : On TYPED_NAMES_MORE (some typed_names_more_is) (comma ∷ [])
 unfolding roto picks_on
 typed_names_more_on = record { computed = tt }
 
-pub typed_names_more_off : Off TYPED-NAMES-MORE (some nothing) (comma ∷ [])
+pub typed_names_more_off : Off TYPED_NAMES_MORE (some nothing) (comma ∷ [])
 unfolding roto picks_off
 typed_names_more_off = record { computed = tt }
 
 -- TYPES
 abbrev pub types_is : List Symbol
-types_is = a TYPE ∷ a TYPES-MORE ∷ []
+types_is = a TYPE ∷ a TYPES_MORE ∷ []
 
 pub types_on : On TYPES (some types_is) type_firsts
 unfolding roto picks_on
@@ -107,17 +105,17 @@ types_off = record { computed = tt }
 abbrev pub types_more_is : List Symbol
 types_more_is = word comma ∷ a TYPES ∷ []
 
-pub types_more_on : On TYPES-MORE (some types_more_is) (comma ∷ [])
+pub types_more_on : On TYPES_MORE (some types_more_is) (comma ∷ [])
 unfolding roto picks_on
 types_more_on = record { computed = tt }
 
-pub types_more_off : Off TYPES-MORE (some nothing) (comma ∷ [])
+pub types_more_off : Off TYPES_MORE (some nothing) (comma ∷ [])
 unfolding roto picks_off
 types_more_off = record { computed = tt }
 
 -- EXPRS
 abbrev pub exprs_is : List Symbol
-exprs_is = a (EXPR records) ∷ a EXPRS-MORE ∷ []
+exprs_is = a (EXPR records) ∷ a EXPRS_MORE ∷ []
 
 pub exprs_on : On EXPRS (some exprs_is) expr_firsts
 unfolding roto picks_on
@@ -131,17 +129,17 @@ exprs_off = record { computed = tt }
 abbrev pub exprs_more_is : List Symbol
 exprs_more_is = word comma ∷ a EXPRS ∷ []
 
-pub exprs_more_on : On EXPRS-MORE (some exprs_more_is) (comma ∷ [])
+pub exprs_more_on : On EXPRS_MORE (some exprs_more_is) (comma ∷ [])
 unfolding roto picks_on
 exprs_more_on = record { computed = tt }
 
-pub exprs_more_off : Off EXPRS-MORE (some nothing) (comma ∷ [])
+pub exprs_more_off : Off EXPRS_MORE (some nothing) (comma ∷ [])
 unfolding roto picks_off
 exprs_more_off = record { computed = tt }
 
 -- FIELDS
 abbrev pub fields_is : List Symbol
-fields_is = a FIELD ∷ a FIELDS-MORE ∷ []
+fields_is = a FIELD ∷ a FIELDS_MORE ∷ []
 
 pub fields_on : On FIELDS (some fields_is) names
 unfolding roto picks_on
@@ -155,17 +153,17 @@ fields_off = record { computed = tt }
 abbrev pub fields_more_is : List Symbol
 fields_more_is = word comma ∷ a FIELDS ∷ []
 
-pub fields_more_on : On FIELDS-MORE (some fields_more_is) (comma ∷ [])
+pub fields_more_on : On FIELDS_MORE (some fields_more_is) (comma ∷ [])
 unfolding roto picks_on
 fields_more_on = record { computed = tt }
 
-pub fields_more_off : Off FIELDS-MORE (some nothing) (comma ∷ [])
+pub fields_more_off : Off FIELDS_MORE (some nothing) (comma ∷ [])
 unfolding roto picks_off
 fields_more_off = record { computed = tt }
 
 -- NAMES
 abbrev pub names_is : List Symbol
-names_is = a NAME ∷ a NAMES-MORE ∷ []
+names_is = a NAME ∷ a NAMES_MORE ∷ []
 
 pub names_on : On NAMES (some names_is) names
 unfolding roto picks_on
@@ -179,11 +177,11 @@ names_off = record { computed = tt }
 abbrev pub names_more_is : List Symbol
 names_more_is = word comma ∷ a NAMES ∷ []
 
-pub names_more_on : On NAMES-MORE (some names_more_is) (comma ∷ [])
+pub names_more_on : On NAMES_MORE (some names_more_is) (comma ∷ [])
 unfolding roto picks_on
 names_more_on = record { computed = tt }
 
-pub names_more_off : Off NAMES-MORE (some nothing) (comma ∷ [])
+pub names_more_off : Off NAMES_MORE (some nothing) (comma ∷ [])
 unfolding roto picks_off
 names_more_off = record { computed = tt }
 
@@ -249,7 +247,7 @@ declaration_off = record { computed = tt }
 
 -- PARAMS
 abbrev pub params_is : List Symbol
-params_is = opens open-paren ∷ a TYPED-NAMES ∷ closes close-paren ∷ []
+params_is = opens open_paren ∷ a TYPED_NAMES ∷ closes close_paren ∷ []
 
 pub params_any : Off PARAMS (some params_is) []
 unfolding roto picks_off
@@ -269,9 +267,9 @@ result_off = record { computed = tt }
 
 -- TYPED-NAME
 abbrev pub typed_name_is : List Symbol
-typed_name_is = a NAME ∷ word ':' ∷ a TYPE ∷ row kinds.TYPED-NAME ∷ []
+typed_name_is = a NAME ∷ word ':' ∷ a TYPE ∷ row kinds.TYPED_NAME ∷ []
 
-pub typed_name_any : Off TYPED-NAME (some typed_name_is) []
+pub typed_name_any : Off TYPED_NAME (some typed_name_is) []
 unfolding roto picks_off
 typed_name_any = record { computed = tt }
 
@@ -301,7 +299,7 @@ imported_any = record { computed = tt }
 
 -- IMPORTPATH
 abbrev pub importpath_is : List Symbol
-importpath_is = a PATH-ITEM ∷ a IMPORTPATH-REST ∷ row kinds.IMPORT-PATH ∷ []
+importpath_is = a PATH_ITEM ∷ a IMPORTPATH_REST ∷ row kinds.IMPORT_PATH ∷ []
 
 pub importpath_any : Off IMPORTPATH (some importpath_is) []
 unfolding roto picks_off
@@ -309,38 +307,38 @@ importpath_any = record { computed = tt }
 
 -- IMPORTPATH-REST
 abbrev pub importpath_rest_is : List Symbol
-importpath_rest_is = word dot ∷ a IMPORTPATH-DOT ∷ []
+importpath_rest_is = word dot ∷ a IMPORTPATH_DOT ∷ []
 
-pub importpath_rest_on : On IMPORTPATH-REST (some importpath_rest_is) (dot ∷ [])
+pub importpath_rest_on : On IMPORTPATH_REST (some importpath_rest_is) (dot ∷ [])
 unfolding roto picks_on
 importpath_rest_on = record { computed = tt }
 
-pub importpath_rest_off : Off IMPORTPATH-REST (some nothing) (dot ∷ [])
+pub importpath_rest_off : Off IMPORTPATH_REST (some nothing) (dot ∷ [])
 unfolding roto picks_off
 importpath_rest_off = record { computed = tt }
 
 -- IMPORTPATH-DOT
 abbrev pub importpath_dot_item : List Symbol
-importpath_dot_item = a PATH-ITEM ∷ a IMPORTPATH-REST ∷ []
+importpath_dot_item = a PATH_ITEM ∷ a IMPORTPATH_REST ∷ []
 
-pub importpath_dot_item_on : On IMPORTPATH-DOT (some importpath_dot_item) path_items
+pub importpath_dot_item_on : On IMPORTPATH_DOT (some importpath_dot_item) path_items
 unfolding roto picks_on
 importpath_dot_item_on = record { computed = tt }
 
 abbrev pub importpath_dot_group : List Symbol
-importpath_dot_group = opens open-brace ∷ a IMPORTPATHS ∷ closes close-brace ∷ []
+importpath_dot_group = opens open_brace ∷ a IMPORTPATHS ∷ closes close_brace ∷ []
 
-pub importpath_dot_group_on : On IMPORTPATH-DOT (some importpath_dot_group) (open-brace ∷ [])
+pub importpath_dot_group_on : On IMPORTPATH_DOT (some importpath_dot_group) (open_brace ∷ [])
 unfolding roto picks_on
 importpath_dot_group_on = record { computed = tt }
 
-pub importpath_dot_off : Off IMPORTPATH-DOT none (open-brace ∷ path_items)
+pub importpath_dot_off : Off IMPORTPATH_DOT none (open_brace ∷ path_items)
 unfolding roto picks_off
 importpath_dot_off = record { computed = tt }
 
 -- IMPORTPATHS
 abbrev pub importpaths_is : List Symbol
-importpaths_is = a IMPORTPATH ∷ a IMPORTPATHS-MORE ∷ []
+importpaths_is = a IMPORTPATH ∷ a IMPORTPATHS_MORE ∷ []
 
 pub importpaths_any : Off IMPORTPATHS (some importpaths_is) []
 unfolding roto picks_off
@@ -350,11 +348,11 @@ importpaths_any = record { computed = tt }
 abbrev pub importpaths_more_is : List Symbol
 importpaths_more_is = word comma ∷ a IMPORTPATHS ∷ []
 
-pub importpaths_more_on : On IMPORTPATHS-MORE (some importpaths_more_is) (comma ∷ [])
+pub importpaths_more_on : On IMPORTPATHS_MORE (some importpaths_more_is) (comma ∷ [])
 unfolding roto picks_on
 importpaths_more_on = record { computed = tt }
 
-pub importpaths_more_off : Off IMPORTPATHS-MORE (some nothing) (comma ∷ [])
+pub importpaths_more_off : Off IMPORTPATHS_MORE (some nothing) (comma ∷ [])
 unfolding roto picks_off
 importpaths_more_off = record { computed = tt }
 
@@ -362,13 +360,13 @@ importpaths_more_off = record { computed = tt }
 abbrev pub path_item_is : List Symbol
 path_item_is = one path_items ∷ row kinds.NAME ∷ []
 
-pub path_item_any : Off PATH-ITEM (some path_item_is) []
+pub path_item_any : Off PATH_ITEM (some path_item_is) []
 unfolding roto picks_off
 path_item_any = record { computed = tt }
 
 -- PATH
 abbrev pub path_is : List Symbol
-path_is = a PATH-ITEM ∷ a PATH-REST ∷ row kinds.PATH ∷ []
+path_is = a PATH_ITEM ∷ a PATH_REST ∷ row kinds.PATH ∷ []
 
 pub path_any : Off PATH (some path_is) []
 unfolding roto picks_off
@@ -376,19 +374,19 @@ path_any = record { computed = tt }
 
 -- PATH-REST
 abbrev pub path_rest_is : List Symbol
-path_rest_is = word dot ∷ a PATH-ITEM ∷ a PATH-REST ∷ []
+path_rest_is = word dot ∷ a PATH_ITEM ∷ a PATH_REST ∷ []
 
-pub path_rest_on : On PATH-REST (some path_rest_is) (dot ∷ [])
+pub path_rest_on : On PATH_REST (some path_rest_is) (dot ∷ [])
 unfolding roto picks_on
 path_rest_on = record { computed = tt }
 
-pub path_rest_off : Off PATH-REST (some nothing) (dot ∷ [])
+pub path_rest_off : Off PATH_REST (some nothing) (dot ∷ [])
 unfolding roto picks_off
 path_rest_off = record { computed = tt }
 
 -- TYPE
 abbrev pub type_is : List Symbol
-type_is = a TYPE-BASE ∷ a TYPE-MARKS ∷ []
+type_is = a TYPE_BASE ∷ a TYPE_MARKS ∷ []
 
 pub type_any : Off TYPE (some type_is) []
 unfolding roto picks_off
@@ -396,13 +394,13 @@ type_any = record { computed = tt }
 
 -- TYPE-MARKS
 abbrev pub type_marks_is : List Symbol
-type_marks_is = word '?' ∷ row kinds.OPTION ∷ a TYPE-MARKS ∷ []
+type_marks_is = word '?' ∷ row kinds.OPTION ∷ a TYPE_MARKS ∷ []
 
-pub type_marks_on : On TYPE-MARKS (some type_marks_is) ('?' ∷ [])
+pub type_marks_on : On TYPE_MARKS (some type_marks_is) ('?' ∷ [])
 unfolding roto picks_on
 type_marks_on = record { computed = tt }
 
-pub type_marks_off : Off TYPE-MARKS (some nothing) ('?' ∷ [])
+pub type_marks_off : Off TYPE_MARKS (some nothing) ('?' ∷ [])
 unfolding roto picks_off
 type_marks_off = record { computed = tt }
 
@@ -410,53 +408,53 @@ type_marks_off = record { computed = tt }
 abbrev pub type_base_never : List Symbol
 type_base_never = word '!' ∷ row kinds.NEVER ∷ []
 
-pub type_base_never_on : On TYPE-BASE (some type_base_never) ('!' ∷ [])
+pub type_base_never_on : On TYPE_BASE (some type_base_never) ('!' ∷ [])
 unfolding roto picks_on
 type_base_never_on = record { computed = tt }
 
 abbrev pub type_base_unit : List Symbol
-type_base_unit = opens open-paren ∷ closes close-paren ∷ row kinds.UNIT ∷ []
+type_base_unit = opens open_paren ∷ closes close_paren ∷ row kinds.UNIT ∷ []
 
-pub type_base_unit_on : On TYPE-BASE (some type_base_unit) (open-paren ∷ [])
+pub type_base_unit_on : On TYPE_BASE (some type_base_unit) (open_paren ∷ [])
 unfolding roto picks_on
 type_base_unit_on = record { computed = tt }
 
 abbrev pub type_base_record : List Symbol
-type_base_record = opens open-brace ∷ a TYPED-NAMES ∷ closes close-brace ∷ row kinds.RECORD-TYPE ∷ []
+type_base_record = opens open_brace ∷ a TYPED_NAMES ∷ closes close_brace ∷ row kinds.RECORD_TYPE ∷ []
 
-pub type_base_record_on : On TYPE-BASE (some type_base_record) (open-brace ∷ [])
+pub type_base_record_on : On TYPE_BASE (some type_base_record) (open_brace ∷ [])
 unfolding roto picks_on
 type_base_record_on = record { computed = tt }
 
 abbrev pub type_base_path : List Symbol
-type_base_path = a PATH ∷ a TYPE-BRACKETS ∷ []
+type_base_path = a PATH ∷ a TYPE_BRACKETS ∷ []
 
-pub type_base_path_on : On TYPE-BASE (some type_base_path) path_items
+pub type_base_path_on : On TYPE_BASE (some type_base_path) path_items
 unfolding roto picks_on
 type_base_path_on = record { computed = tt }
 
-pub type_base_off : Off TYPE-BASE none type_firsts
+pub type_base_off : Off TYPE_BASE none type_firsts
 unfolding roto picks_off
 type_base_off = record { computed = tt }
 
 -- TYPE-BRACKETS
 abbrev pub type_brackets_is : List Symbol
-type_brackets_is = opens open-bracket ∷ a TYPES ∷ closes close-bracket ∷ part ∷ row kinds.PATH-TYPE ∷ []
+type_brackets_is = opens open_bracket ∷ a TYPES ∷ closes close_bracket ∷ part ∷ row kinds.PATH_TYPE ∷ []
 
-pub type_brackets_on : On TYPE-BRACKETS (some type_brackets_is) (open-bracket ∷ [])
+pub type_brackets_on : On TYPE_BRACKETS (some type_brackets_is) (open_bracket ∷ [])
 unfolding roto picks_on
 type_brackets_on = record { computed = tt }
 
 abbrev pub type_brackets_none : List Symbol
-type_brackets_none = row kinds.PATH-TYPE ∷ []
+type_brackets_none = row kinds.PATH_TYPE ∷ []
 
-pub type_brackets_off : Off TYPE-BRACKETS (some type_brackets_none) (open-bracket ∷ [])
+pub type_brackets_off : Off TYPE_BRACKETS (some type_brackets_none) (open_bracket ∷ [])
 unfolding roto picks_off
 type_brackets_off = record { computed = tt }
 
 -- BLOCK
 abbrev pub block_is : List Symbol
-block_is = opens open-brace ∷ a STATEMENTS ∷ closes close-brace ∷ row kinds.BLOCK ∷ []
+block_is = opens open_brace ∷ a STATEMENTS ∷ closes close_brace ∷ row kinds.BLOCK ∷ []
 
 pub block_any : Off BLOCK (some block_is) []
 unfolding roto picks_off
@@ -490,14 +488,14 @@ unfolding roto picks_on
 statement_let_on = record { computed = tt }
 
 abbrev pub statement_four : List Symbol
-statement_four = a FOUR ∷ a AFTER-FOUR ∷ []
+statement_four = a FOUR ∷ a AFTER_FOUR ∷ []
 
 pub statement_four_on : On STATEMENT (some statement_four) four_words
 unfolding roto picks_on
 statement_four_on = record { computed = tt }
 
 abbrev pub statement_expr : List Symbol
-statement_expr = unless four_words ∷ a (EXPR records) ∷ a AFTER-EXPR ∷ []
+statement_expr = unless four_words ∷ a (EXPR records) ∷ a AFTER_EXPR ∷ []
 
 pub statement_expr_on : On STATEMENT (some statement_expr) plain_firsts
 unfolding roto picks_on
@@ -511,21 +509,21 @@ statement_off = record { computed = tt }
 abbrev pub after_four_semicolon : List Symbol
 after_four_semicolon = word semicolon ∷ a STATEMENTS ∷ []
 
-pub after_four_semicolon_on : On AFTER-FOUR (some after_four_semicolon) (semicolon ∷ [])
+pub after_four_semicolon_on : On AFTER_FOUR (some after_four_semicolon) (semicolon ∷ [])
 unfolding roto picks_on
 after_four_semicolon_on = record { computed = tt }
 
 abbrev pub after_four_more : List Symbol
 after_four_more = a STATEMENT ∷ []
 
-pub after_four_more_on : On AFTER-FOUR (some after_four_more) statement_firsts
+pub after_four_more_on : On AFTER_FOUR (some after_four_more) statement_firsts
 unfolding roto picks_on
 after_four_more_on = record { computed = tt }
 
 abbrev pub after_four_last : List Symbol
 after_four_last = part ∷ []
 
-pub after_four_off : Off AFTER-FOUR (some after_four_last) (semicolon ∷ statement_firsts)
+pub after_four_off : Off AFTER_FOUR (some after_four_last) (semicolon ∷ statement_firsts)
 unfolding roto picks_off
 after_four_off = record { computed = tt }
 
@@ -533,20 +531,20 @@ after_four_off = record { computed = tt }
 abbrev pub after_expr_is : List Symbol
 after_expr_is = word semicolon ∷ a STATEMENTS ∷ []
 
-pub after_expr_on : On AFTER-EXPR (some after_expr_is) (semicolon ∷ [])
+pub after_expr_on : On AFTER_EXPR (some after_expr_is) (semicolon ∷ [])
 unfolding roto picks_on
 after_expr_on = record { computed = tt }
 
 abbrev pub after_expr_last : List Symbol
 after_expr_last = part ∷ []
 
-pub after_expr_off : Off AFTER-EXPR (some after_expr_last) (semicolon ∷ [])
+pub after_expr_off : Off AFTER_EXPR (some after_expr_last) (semicolon ∷ [])
 unfolding roto picks_off
 after_expr_off = record { computed = tt }
 
 -- LET
 abbrev pub let_is : List Symbol
-let_is = word 'let' ∷ a NAME ∷ a LET-TYPE ∷ word '=' ∷ a (EXPR records) ∷ word semicolon ∷ row kinds.LET ∷ []
+let_is = word 'let' ∷ a NAME ∷ a LET_TYPE ∷ word '=' ∷ a (EXPR records) ∷ word semicolon ∷ row kinds.LET ∷ []
 
 pub let_any : Off LET (some let_is) []
 unfolding roto picks_off
@@ -556,11 +554,11 @@ let_any = record { computed = tt }
 abbrev pub let_type_is : List Symbol
 let_type_is = word ':' ∷ a TYPE ∷ part ∷ []
 
-pub let_type_on : On LET-TYPE (some let_type_is) (':' ∷ [])
+pub let_type_on : On LET_TYPE (some let_type_is) (':' ∷ [])
 unfolding roto picks_on
 let_type_on = record { computed = tt }
 
-pub let_type_off : Off LET-TYPE (some nothing) (':' ∷ [])
+pub let_type_off : Off LET_TYPE (some nothing) (':' ∷ [])
 unfolding roto picks_off
 let_type_off = record { computed = tt }
 
@@ -574,7 +572,7 @@ literal_any = record { computed = tt }
 
 -- PARENS
 abbrev pub parens_is : List Symbol
-parens_is = opens open-paren ∷ a (EXPR records) ∷ closes close-paren ∷ []
+parens_is = opens open_paren ∷ a (EXPR records) ∷ closes close_paren ∷ []
 
 pub parens_any : Off PARENS (some parens_is) []
 unfolding roto picks_off
@@ -582,7 +580,7 @@ parens_any = record { computed = tt }
 
 -- BRACES
 abbrev pub braces_is : List Symbol
-braces_is = opens open-brace ∷ a BRACES-INSIDE ∷ []
+braces_is = opens open_brace ∷ a BRACES_INSIDE ∷ []
 
 pub braces_any : Off BRACES (some braces_is) []
 unfolding roto picks_off
@@ -590,7 +588,7 @@ braces_any = record { computed = tt }
 
 -- FIELD
 abbrev pub field_is : List Symbol
-field_is = a FIELD-NAME ∷ word ':' ∷ a (EXPR records) ∷ row kinds.FIELD ∷ []
+field_is = a FIELD_NAME ∷ word ':' ∷ a (EXPR records) ∷ row kinds.FIELD ∷ []
 
 pub field_any : Off FIELD (some field_is) []
 unfolding roto picks_off
@@ -600,7 +598,7 @@ field_any = record { computed = tt }
 abbrev pub field_name_is : List Symbol
 field_name_is = one names ∷ row kinds.NAME ∷ []
 
-pub field_name_any : Off FIELD-NAME (some field_name_is) []
+pub field_name_any : Off FIELD_NAME (some field_name_is) []
 unfolding roto picks_off
 field_name_any = record { computed = tt }
 
@@ -627,7 +625,7 @@ unfolding roto picks_on
 four_for_on = record { computed = tt }
 
 abbrev pub four_match : List Symbol
-four_match = head 'match' ∷ a (EXPR no_records) ∷ opens open-brace ∷ behind ARMS ∷ closes close-brace ∷ row kinds.MATCH ∷ []
+four_match = head 'match' ∷ a (EXPR no_records) ∷ opens open_brace ∷ behind ARMS ∷ closes close_brace ∷ row kinds.MATCH ∷ []
 
 pub four_match_on : On FOUR (some four_match) ('match' ∷ [])
 unfolding roto picks_on
@@ -639,7 +637,7 @@ four_off = record { computed = tt }
 
 -- ELSE
 abbrev pub else_is : List Symbol
-else_is = word 'else' ∷ a ELSE-PART ∷ []
+else_is = word 'else' ∷ a ELSE_PART ∷ []
 
 pub else_on : On ELSE (some else_is) ('else' ∷ [])
 unfolding roto picks_on
@@ -653,18 +651,18 @@ else_off = record { computed = tt }
 abbrev pub elses_block : List Symbol
 elses_block = a BLOCK ∷ []
 
-pub elses_block_on : On ELSE-PART (some elses_block) (open-brace ∷ [])
+pub elses_block_on : On ELSE_PART (some elses_block) (open_brace ∷ [])
 unfolding roto picks_on
 elses_block_on = record { computed = tt }
 
 abbrev pub elses_if : List Symbol
-elses_if = a ELSE-IF ∷ []
+elses_if = a ELSE_IF ∷ []
 
-pub elses_if_on : On ELSE-PART (some elses_if) ('if' ∷ [])
+pub elses_if_on : On ELSE_PART (some elses_if) ('if' ∷ [])
 unfolding roto picks_on
 elses_if_on = record { computed = tt }
 
-pub elses_off : Off ELSE-PART none ('if' ∷ open-brace ∷ [])
+pub elses_off : Off ELSE_PART none ('if' ∷ open_brace ∷ [])
 unfolding roto picks_off
 elses_off = record { computed = tt }
 
@@ -672,7 +670,7 @@ elses_off = record { computed = tt }
 abbrev pub else_if_is : List Symbol
 else_if_is = token is_else_if ('if' ∷ []) ∷ a (EXPR no_records) ∷ behind BLOCK ∷ behind ELSE ∷ row kinds.IF ∷ []
 
-pub else_if_any : Off ELSE-IF (some else_if_is) []
+pub else_if_any : Off ELSE_IF (some else_if_is) []
 unfolding roto picks_off
 else_if_any = record { computed = tt }
 
@@ -690,7 +688,7 @@ arms_off = record { computed = tt }
 
 -- ARM
 abbrev pub arm_is : List Symbol
-arm_is = a PATTERN ∷ a GUARD ∷ word '=>' ∷ a ARM-BODY ∷ []
+arm_is = a PATTERN ∷ a GUARD ∷ word '=>' ∷ a ARM_BODY ∷ []
 
 pub arm_any : Off ARM (some arm_is) []
 unfolding roto picks_off
@@ -698,20 +696,20 @@ arm_any = record { computed = tt }
 
 -- ARM-BODY
 abbrev pub arm_block : List Symbol
-arm_block = a BLOCK ∷ row kinds.ARM ∷ a ARM-COMMA ∷ a ARMS ∷ []
+arm_block = a BLOCK ∷ row kinds.ARM ∷ a ARM_COMMA ∷ a ARMS ∷ []
 
-pub arm_block_on : On ARM-BODY (some arm_block) (open-brace ∷ [])
+pub arm_block_on : On ARM_BODY (some arm_block) (open_brace ∷ [])
 unfolding roto picks_on
 arm_block_on = record { computed = tt }
 
 abbrev pub arm_expr : List Symbol
-arm_expr = unless (open-brace ∷ []) ∷ a (EXPR records) ∷ row kinds.ARM ∷ a ARM-NEXT ∷ []
+arm_expr = unless (open_brace ∷ []) ∷ a (EXPR records) ∷ row kinds.ARM ∷ a ARM_NEXT ∷ []
 
-pub arm_expr_on : On ARM-BODY (some arm_expr) braceless
+pub arm_expr_on : On ARM_BODY (some arm_expr) braceless
 unfolding roto picks_on
 arm_expr_on = record { computed = tt }
 
-pub arm_off : Off ARM-BODY none expr_firsts
+pub arm_off : Off ARM_BODY none expr_firsts
 unfolding roto picks_off
 arm_off = record { computed = tt }
 
@@ -719,11 +717,11 @@ arm_off = record { computed = tt }
 abbrev pub arm_next_is : List Symbol
 arm_next_is = word comma ∷ a ARMS ∷ []
 
-pub arm_next_on : On ARM-NEXT (some arm_next_is) (comma ∷ [])
+pub arm_next_on : On ARM_NEXT (some arm_next_is) (comma ∷ [])
 unfolding roto picks_on
 arm_next_on = record { computed = tt }
 
-pub arm_next_off : Off ARM-NEXT (some nothing) (comma ∷ [])
+pub arm_next_off : Off ARM_NEXT (some nothing) (comma ∷ [])
 unfolding roto picks_off
 arm_next_off = record { computed = tt }
 
@@ -731,11 +729,11 @@ arm_next_off = record { computed = tt }
 abbrev pub arm_comma_is : List Symbol
 arm_comma_is = word comma ∷ []
 
-pub arm_comma_on : On ARM-COMMA (some arm_comma_is) (comma ∷ [])
+pub arm_comma_on : On ARM_COMMA (some arm_comma_is) (comma ∷ [])
 unfolding roto picks_on
 arm_comma_on = record { computed = tt }
 
-pub arm_comma_off : Off ARM-COMMA (some nothing) (comma ∷ [])
+pub arm_comma_off : Off ARM_COMMA (some nothing) (comma ∷ [])
 unfolding roto picks_off
 arm_comma_off = record { computed = tt }
 
@@ -753,7 +751,7 @@ guard_off = record { computed = tt }
 
 -- PATTERN
 abbrev pub pattern_variant : List Symbol
-pattern_variant = a VARIANT ∷ a VARIANT-NAMES ∷ []
+pattern_variant = a VARIANT ∷ a VARIANT_NAMES ∷ []
 
 pub pattern_variant_on : On PATTERN (some pattern_variant) (name ∷ [])
 unfolding roto picks_on
@@ -780,16 +778,16 @@ variant_any = record { computed = tt }
 
 -- VARIANT-NAMES
 abbrev pub variant_names_is : List Symbol
-variant_names_is = opens open-paren ∷ a NAMES ∷ closes close-paren ∷ part ∷ row kinds.VARIANT ∷ []
+variant_names_is = opens open_paren ∷ a NAMES ∷ closes close_paren ∷ part ∷ row kinds.VARIANT ∷ []
 
-pub variant_names_on : On VARIANT-NAMES (some variant_names_is) (open-paren ∷ [])
+pub variant_names_on : On VARIANT_NAMES (some variant_names_is) (open_paren ∷ [])
 unfolding roto picks_on
 variant_names_on = record { computed = tt }
 
 abbrev pub variant_names_none : List Symbol
 variant_names_none = row kinds.VARIANT ∷ []
 
-pub variant_names_off : Off VARIANT-NAMES (some variant_names_none) (open-paren ∷ [])
+pub variant_names_off : Off VARIANT_NAMES (some variant_names_none) (open_paren ∷ [])
 unfolding roto picks_off
 variant_names_off = record { computed = tt }
 
@@ -847,7 +845,7 @@ assigned_off false = record { computed = tt }
 
 -- BINARY
 abbrev pub binary_is : Bool → List Symbol
-binary_is b = a (AND b) ∷ a (OR-MORE b) ∷ []
+binary_is b = a (AND b) ∷ a (OR_MORE b) ∷ []
 
 pub binary_any : (b : Bool) → Off (BINARY b) (some (binary_is b)) []
 unfolding roto picks_off
@@ -856,21 +854,21 @@ binary_any false = record { computed = tt }
 
 -- OR-MORE
 abbrev pub or_more_is : Bool → List Symbol
-or_more_is b = word '||' ∷ a (AND b) ∷ row kinds.BINARY ∷ a (OR-MORE b) ∷ []
+or_more_is b = word '||' ∷ a (AND b) ∷ row kinds.BINARY ∷ a (OR_MORE b) ∷ []
 
-pub or_more_on : (b : Bool) → On (OR-MORE b) (some (or_more_is b)) ('||' ∷ [])
+pub or_more_on : (b : Bool) → On (OR_MORE b) (some (or_more_is b)) ('||' ∷ [])
 unfolding roto picks_on
 or_more_on true = record { computed = tt }
 or_more_on false = record { computed = tt }
 
-pub or_more_off : (b : Bool) → Off (OR-MORE b) (some nothing) ('||' ∷ [])
+pub or_more_off : (b : Bool) → Off (OR_MORE b) (some nothing) ('||' ∷ [])
 unfolding roto picks_off
 or_more_off true = record { computed = tt }
 or_more_off false = record { computed = tt }
 
 -- AND
 abbrev pub and_is : Bool → List Symbol
-and_is b = a (COMPARE b) ∷ a (AND-MORE b) ∷ []
+and_is b = a (COMPARE b) ∷ a (AND_MORE b) ∷ []
 
 pub and_any : (b : Bool) → Off (AND b) (some (and_is b)) []
 unfolding roto picks_off
@@ -879,21 +877,21 @@ and_any false = record { computed = tt }
 
 -- AND-MORE
 abbrev pub and_more_is : Bool → List Symbol
-and_more_is b = word '&&' ∷ a (COMPARE b) ∷ row kinds.BINARY ∷ a (AND-MORE b) ∷ []
+and_more_is b = word '&&' ∷ a (COMPARE b) ∷ row kinds.BINARY ∷ a (AND_MORE b) ∷ []
 
-pub and_more_on : (b : Bool) → On (AND-MORE b) (some (and_more_is b)) ('&&' ∷ [])
+pub and_more_on : (b : Bool) → On (AND_MORE b) (some (and_more_is b)) ('&&' ∷ [])
 unfolding roto picks_on
 and_more_on true = record { computed = tt }
 and_more_on false = record { computed = tt }
 
-pub and_more_off : (b : Bool) → Off (AND-MORE b) (some nothing) ('&&' ∷ [])
+pub and_more_off : (b : Bool) → Off (AND_MORE b) (some nothing) ('&&' ∷ [])
 unfolding roto picks_off
 and_more_off true = record { computed = tt }
 and_more_off false = record { computed = tt }
 
 -- COMPARE
 abbrev pub compare_is : Bool → List Symbol
-compare_is b = a (SUM b) ∷ a (COMPARE-MORE b) ∷ []
+compare_is b = a (SUM b) ∷ a (COMPARE_MORE b) ∷ []
 
 pub compare_any : (b : Bool) → Off (COMPARE b) (some (compare_is b)) []
 unfolding roto picks_off
@@ -904,19 +902,19 @@ compare_any false = record { computed = tt }
 abbrev pub compare_more_is : Bool → List Symbol
 compare_more_is b = one compare_signs ∷ a (SUM b) ∷ row kinds.BINARY ∷ []
 
-pub compare_more_on : (b : Bool) → On (COMPARE-MORE b) (some (compare_more_is b)) compare_signs
+pub compare_more_on : (b : Bool) → On (COMPARE_MORE b) (some (compare_more_is b)) compare_signs
 unfolding roto picks_on
 compare_more_on true = record { computed = tt }
 compare_more_on false = record { computed = tt }
 
-pub compare_more_off : (b : Bool) → Off (COMPARE-MORE b) (some nothing) compare_signs
+pub compare_more_off : (b : Bool) → Off (COMPARE_MORE b) (some nothing) compare_signs
 unfolding roto picks_off
 compare_more_off true = record { computed = tt }
 compare_more_off false = record { computed = tt }
 
 -- SUM
 abbrev pub sum_is : Bool → List Symbol
-sum_is b = a (PRODUCT b) ∷ a (SUM-MORE b) ∷ []
+sum_is b = a (PRODUCT b) ∷ a (SUM_MORE b) ∷ []
 
 pub sum_any : (b : Bool) → Off (SUM b) (some (sum_is b)) []
 unfolding roto picks_off
@@ -925,21 +923,21 @@ sum_any false = record { computed = tt }
 
 -- SUM-MORE
 abbrev pub sum_more_is : Bool → List Symbol
-sum_more_is b = one sum_signs ∷ a (PRODUCT b) ∷ row kinds.BINARY ∷ a (SUM-MORE b) ∷ []
+sum_more_is b = one sum_signs ∷ a (PRODUCT b) ∷ row kinds.BINARY ∷ a (SUM_MORE b) ∷ []
 
-pub sum_more_on : (b : Bool) → On (SUM-MORE b) (some (sum_more_is b)) sum_signs
+pub sum_more_on : (b : Bool) → On (SUM_MORE b) (some (sum_more_is b)) sum_signs
 unfolding roto picks_on
 sum_more_on true = record { computed = tt }
 sum_more_on false = record { computed = tt }
 
-pub sum_more_off : (b : Bool) → Off (SUM-MORE b) (some nothing) sum_signs
+pub sum_more_off : (b : Bool) → Off (SUM_MORE b) (some nothing) sum_signs
 unfolding roto picks_off
 sum_more_off true = record { computed = tt }
 sum_more_off false = record { computed = tt }
 
 -- PRODUCT
 abbrev pub product_is : Bool → List Symbol
-product_is b = a (OPERAND b) ∷ a (PRODUCT-MORE b) ∷ []
+product_is b = a (OPERAND b) ∷ a (PRODUCT_MORE b) ∷ []
 
 pub product_any : (b : Bool) → Off (PRODUCT b) (some (product_is b)) []
 unfolding roto picks_off
@@ -948,14 +946,14 @@ product_any false = record { computed = tt }
 
 -- PRODUCT-MORE
 abbrev pub product_more_is : Bool → List Symbol
-product_more_is b = one product_signs ∷ a (OPERAND b) ∷ row kinds.BINARY ∷ a (PRODUCT-MORE b) ∷ []
+product_more_is b = one product_signs ∷ a (OPERAND b) ∷ row kinds.BINARY ∷ a (PRODUCT_MORE b) ∷ []
 
-pub product_more_on : (b : Bool) → On (PRODUCT-MORE b) (some (product_more_is b)) product_signs
+pub product_more_on : (b : Bool) → On (PRODUCT_MORE b) (some (product_more_is b)) product_signs
 unfolding roto picks_on
 product_more_on true = record { computed = tt }
 product_more_on false = record { computed = tt }
 
-pub product_more_off : (b : Bool) → Off (PRODUCT-MORE b) (some nothing) product_signs
+pub product_more_off : (b : Bool) → Off (PRODUCT_MORE b) (some nothing) product_signs
 unfolding roto picks_off
 product_more_off true = record { computed = tt }
 product_more_off false = record { computed = tt }
@@ -986,15 +984,15 @@ operand_literal_on true = record { computed = tt }
 operand_literal_on false = record { computed = tt }
 
 abbrev pub operand_string : Bool → List Symbol
-operand_string b = a F-STRING ∷ a (POSTFIX b) ∷ []
+operand_string b = a F_STRING ∷ a (POSTFIX b) ∷ []
 
-pub operand_string_on : (b : Bool) → On (OPERAND b) (some (operand_string b)) (f-quote ∷ [])
+pub operand_string_on : (b : Bool) → On (OPERAND b) (some (operand_string b)) (f_quote ∷ [])
 unfolding roto picks_on
 operand_string_on true = record { computed = tt }
 operand_string_on false = record { computed = tt }
 
 abbrev pub operand_path : Bool → List Symbol
-operand_path b = a PATH ∷ a (AFTER-PATH b) ∷ []
+operand_path b = a PATH ∷ a (AFTER_PATH b) ∷ []
 
 pub operand_path_on : (b : Bool) → On (OPERAND b) (some (operand_path b)) path_items
 unfolding roto picks_on
@@ -1004,7 +1002,7 @@ operand_path_on false = record { computed = tt }
 abbrev pub operand_parens : Bool → List Symbol
 operand_parens b = a PARENS ∷ a (POSTFIX b) ∷ []
 
-pub operand_parens_on : (b : Bool) → On (OPERAND b) (some (operand_parens b)) (open-paren ∷ [])
+pub operand_parens_on : (b : Bool) → On (OPERAND b) (some (operand_parens b)) (open_paren ∷ [])
 unfolding roto picks_on
 operand_parens_on true = record { computed = tt }
 operand_parens_on false = record { computed = tt }
@@ -1025,14 +1023,14 @@ operand_off false = record { computed = tt }
 abbrev pub operand_braces : List Symbol
 operand_braces = a BRACES ∷ a (POSTFIX records) ∷ []
 
-pub operand_braces_on : On (OPERAND true) (some operand_braces) (open-brace ∷ [])
+pub operand_braces_on : On (OPERAND true) (some operand_braces) (open_brace ∷ [])
 unfolding roto picks_on
 operand_braces_on = record { computed = tt }
 
 abbrev pub operand_block : List Symbol
 operand_block = a BLOCK ∷ a (POSTFIX no_records) ∷ []
 
-pub operand_block_on : On (OPERAND false) (some operand_block) (open-brace ∷ [])
+pub operand_block_on : On (OPERAND false) (some operand_block) (open_brace ∷ [])
 unfolding roto picks_on
 operand_block_on = record { computed = tt }
 
@@ -1046,9 +1044,9 @@ postfix_question_on true = record { computed = tt }
 postfix_question_on false = record { computed = tt }
 
 abbrev pub postfix_call : Bool → List Symbol
-postfix_call b = opens open-paren ∷ a EXPRS ∷ closes close-paren ∷ row kinds.CALL ∷ a (POSTFIX b) ∷ []
+postfix_call b = opens open_paren ∷ a EXPRS ∷ closes close_paren ∷ row kinds.CALL ∷ a (POSTFIX b) ∷ []
 
-pub postfix_call_on : (b : Bool) → On (POSTFIX b) (some (postfix_call b)) (open-paren ∷ [])
+pub postfix_call_on : (b : Bool) → On (POSTFIX b) (some (postfix_call b)) (open_paren ∷ [])
 unfolding roto picks_on
 postfix_call_on true = record { computed = tt }
 postfix_call_on false = record { computed = tt }
@@ -1070,31 +1068,31 @@ postfix_off false = record { computed = tt }
 abbrev pub after_path_question : Bool → List Symbol
 after_path_question b = word '?' ∷ row kinds.QUESTION ∷ a (POSTFIX b) ∷ []
 
-pub after_path_question_on : (b : Bool) → On (AFTER-PATH b) (some (after_path_question b)) ('?' ∷ [])
+pub after_path_question_on : (b : Bool) → On (AFTER_PATH b) (some (after_path_question b)) ('?' ∷ [])
 unfolding roto picks_on
 after_path_question_on true = record { computed = tt }
 after_path_question_on false = record { computed = tt }
 
 abbrev pub after_path_call : Bool → List Symbol
-after_path_call b = opens open-paren ∷ a EXPRS ∷ closes close-paren ∷ row kinds.CALL ∷ a (POSTFIX b) ∷ []
+after_path_call b = opens open_paren ∷ a EXPRS ∷ closes close_paren ∷ row kinds.CALL ∷ a (POSTFIX b) ∷ []
 
-pub after_path_call_on : (b : Bool) → On (AFTER-PATH b) (some (after_path_call b)) (open-paren ∷ [])
+pub after_path_call_on : (b : Bool) → On (AFTER_PATH b) (some (after_path_call b)) (open_paren ∷ [])
 unfolding roto picks_on
 after_path_call_on true = record { computed = tt }
 after_path_call_on false = record { computed = tt }
 
 abbrev pub after_path_record : List Symbol
-after_path_record = opens open-brace ∷ a FIELDS ∷ closes close-brace ∷ part ∷ row kinds.RECORD ∷ a (POSTFIX records) ∷ []
+after_path_record = opens open_brace ∷ a FIELDS ∷ closes close_brace ∷ part ∷ row kinds.RECORD ∷ a (POSTFIX records) ∷ []
 
-pub after_path_record_on : On (AFTER-PATH true) (some after_path_record) (open-brace ∷ [])
+pub after_path_record_on : On (AFTER_PATH true) (some after_path_record) (open_brace ∷ [])
 unfolding roto picks_on
 after_path_record_on = record { computed = tt }
 
-pub after_path_off_records : Off (AFTER-PATH true) (some nothing) ('?' ∷ open-paren ∷ open-brace ∷ [])
+pub after_path_off_records : Off (AFTER_PATH true) (some nothing) ('?' ∷ open_paren ∷ open_brace ∷ [])
 unfolding roto picks_off
 after_path_off_records = record { computed = tt }
 
-pub after_path_off_none : Off (AFTER-PATH false) (some nothing) ('?' ∷ open-paren ∷ [])
+pub after_path_off_none : Off (AFTER_PATH false) (some nothing) ('?' ∷ open_paren ∷ [])
 unfolding roto picks_off
 after_path_off_none = record { computed = tt }
 
@@ -1111,7 +1109,7 @@ pub rest_binary : (b : Bool) → one_of (BINARY b) rest_kinds ≡ false
 rest_binary true = refl
 rest_binary false = refl
 
-pub rest_or_more : (b : Bool) → one_of (OR-MORE b) rest_kinds ≡ true
+pub rest_or_more : (b : Bool) → one_of (OR_MORE b) rest_kinds ≡ true
 rest_or_more true = refl
 rest_or_more false = refl
 
@@ -1119,7 +1117,7 @@ pub rest_and : (b : Bool) → one_of (AND b) rest_kinds ≡ false
 rest_and true = refl
 rest_and false = refl
 
-pub rest_and_more : (b : Bool) → one_of (AND-MORE b) rest_kinds ≡ true
+pub rest_and_more : (b : Bool) → one_of (AND_MORE b) rest_kinds ≡ true
 rest_and_more true = refl
 rest_and_more false = refl
 
@@ -1127,7 +1125,7 @@ pub rest_compare : (b : Bool) → one_of (COMPARE b) rest_kinds ≡ false
 rest_compare true = refl
 rest_compare false = refl
 
-pub rest_compare_more : (b : Bool) → one_of (COMPARE-MORE b) rest_kinds ≡ true
+pub rest_compare_more : (b : Bool) → one_of (COMPARE_MORE b) rest_kinds ≡ true
 rest_compare_more true = refl
 rest_compare_more false = refl
 
@@ -1135,7 +1133,7 @@ pub rest_sum : (b : Bool) → one_of (SUM b) rest_kinds ≡ false
 rest_sum true = refl
 rest_sum false = refl
 
-pub rest_sum_more : (b : Bool) → one_of (SUM-MORE b) rest_kinds ≡ true
+pub rest_sum_more : (b : Bool) → one_of (SUM_MORE b) rest_kinds ≡ true
 rest_sum_more true = refl
 rest_sum_more false = refl
 
@@ -1143,7 +1141,7 @@ pub rest_product : (b : Bool) → one_of (PRODUCT b) rest_kinds ≡ false
 rest_product true = refl
 rest_product false = refl
 
-pub rest_product_more : (b : Bool) → one_of (PRODUCT-MORE b) rest_kinds ≡ true
+pub rest_product_more : (b : Bool) → one_of (PRODUCT_MORE b) rest_kinds ≡ true
 rest_product_more true = refl
 rest_product_more false = refl
 
@@ -1155,30 +1153,30 @@ pub rest_postfix : (b : Bool) → one_of (POSTFIX b) rest_kinds ≡ true
 rest_postfix true = refl
 rest_postfix false = refl
 
-pub rest_after_path : (b : Bool) → one_of (AFTER-PATH b) rest_kinds ≡ true
+pub rest_after_path : (b : Bool) → one_of (AFTER_PATH b) rest_kinds ≡ true
 rest_after_path true = refl
 rest_after_path false = refl
 
 -- BRACES-INSIDE: a name with `:` next begins a field
 abbrev pub braces_inside_fields : List Symbol
-braces_inside_fields = a FIELD ∷ a FIELDS-MORE ∷ closes close-brace ∷ row kinds.RECORD ∷ []
+braces_inside_fields = a FIELD ∷ a FIELDS_MORE ∷ closes close_brace ∷ row kinds.RECORD ∷ []
 
 abbrev pub braces_inside_statements : List Symbol
-braces_inside_statements = a STATEMENTS ∷ closes close-brace ∷ row kinds.BLOCK ∷ []
+braces_inside_statements = a STATEMENTS ∷ closes close_brace ∷ row kinds.BLOCK ∷ []
 
-pub braces_inside_on : On BRACES-INSIDE (some braces_inside_statements) inside_firsts
+pub braces_inside_on : On BRACES_INSIDE (some braces_inside_statements) inside_firsts
 unfolding roto picks_on
 braces_inside_on = record { computed = tt }
 
-pub braces_inside_off : Off BRACES-INSIDE none (close-brace ∷ statement_firsts)
+pub braces_inside_off : Off BRACES_INSIDE none (close_brace ∷ statement_firsts)
 unfolding roto picks_off
 braces_inside_off = record { computed = tt }
 
-inside_pair : T (picks_by language BRACES-INSIDE (some braces_inside_fields) pair names)
+inside_pair : T (picks_by language BRACES_INSIDE (some braces_inside_fields) pair names)
 unfolding roto picks_by
 inside_pair = tt
 
-inside_one : T (picks_by language BRACES-INSIDE (some braces_inside_statements) one_seen names)
+inside_one : T (picks_by language BRACES_INSIDE (some braces_inside_statements) one_seen names)
 unfolding roto picks_by
 inside_one = tt
 
@@ -1203,8 +1201,8 @@ module _ (s : List ℕ) {h h' : Here} (g : Stands s h) (m : T (one_of (word_of h
       let k = goes_past g w.0 w.1 e in
       ((is_token g w.0 w.1).0, subst (λ (x : ℕ). peek (source s) language x ≡ word_of h') k.1 (peeks k.0))
 
-  pub braces_inside_field : word_of h' ≡ 46 → chosen language BRACES-INSIDE (view (source s) language h.place) ≡ some braces_inside_fields
-  braces_inside_field c = pair_place language BRACES-INSIDE (some braces_inside_fields) (source s) names h.place next_word.0 (flagged (word_of h) (peek (source s) language (next_of h)) m (next_word.1 ∙ c)) inside_pair m
+  pub braces_inside_field : word_of h' ≡ 46 → chosen language BRACES_INSIDE (view (source s) language h.place) ≡ some braces_inside_fields
+  braces_inside_field c = pair_place language BRACES_INSIDE (some braces_inside_fields) (source s) names h.place next_word.0 (flagged (word_of h) (peek (source s) language (next_of h)) m (next_word.1 ∙ c)) inside_pair m
 
-  pub braces_inside_other : word_of h' ≢ 46 → chosen language BRACES-INSIDE (view (source s) language h.place) ≡ some braces_inside_statements
-  braces_inside_other c = one_place language BRACES-INSIDE (some braces_inside_statements) (source s) names h.place next_word.0 (unflagged (word_of h) (peek (source s) language (next_of h)) (λ q. c (sym next_word.1 ∙ q))) inside_one m
+  pub braces_inside_other : word_of h' ≢ 46 → chosen language BRACES_INSIDE (view (source s) language h.place) ≡ some braces_inside_statements
+  braces_inside_other c = one_place language BRACES_INSIDE (some braces_inside_statements) (source s) names h.place next_word.0 (unflagged (word_of h) (peek (source s) language (next_of h)) (λ q. c (sym next_word.1 ∙ q))) inside_one m

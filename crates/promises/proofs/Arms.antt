@@ -9,10 +9,10 @@ use Prim.Native.Nat.{ℕ, ◌+◌, ◌≤◌, ◌<◌}
 use lib.Dec.{T, eqb, eqb→eq, eqb_refl}
 use lib.ListN.{length}
 use native.Mathlib.Omega.{arith}
-use Rattle.rows.specs.Kinds.{kinds}
+use Rattle.rows.specs.Kinds as kinds
 use Rattle.tokens.specs.declared.Refusal.{Refusal}
 use Rattle.rows.specs.declared.Row.{Row}
-use Rattle.grammar.specs.Words.{names, words}
+use Rattle.grammar.specs.Words.{open_brace, close_brace, comma, '=>', names}
 use Rattle.grammar.specs.Grammar.{plain, Scope, same, body, Stream, Symbol, phrase, Parts, end, node, Language, one_of}
 use Rattle.grammar.specs.Limits.{Counts, after, inside, kept}
 use Rattle.grammar.specs.Readings.{reads_phrase, reads_end}
@@ -20,7 +20,7 @@ use Rattle.grammar.specs.Runs.{Picks, Run}
 use Rattle.grammar.specs.Refusals.{Why, Stops, stops_in, stops_none}
 use Rattle.grammar.specs.Rows.{Row as Written, Item, Draft, children_of, write, blank}
 use Rattle.grammar.specs.Table.{a, behind, closes, word, row, part, rest_kinds}
-use Rattle.grammar.specs.Kinds.{records, phrases}
+use Rattle.grammar.specs.Kinds.{records, BLOCK, ARMS, ARM, ARM_BODY, ARM_COMMA, ARM_NEXT, GUARD, PATTERN, EXPR}
 use Rattle.grammar.specs.Phrases.{Read as Phrase-read, Refused as Phrase-refused}
 use Rattle.grammar.proofs.Bools.{F→eq}
 use Rattle.grammar.proofs.Summary.{or_word}
@@ -50,8 +50,6 @@ use Rattle.promises.proofs.Partly.{partly, partly_of, partly_stops, partly_stopp
 use Rattle.promises.proofs.Answered.{Further, partly_as, done_is}
 use Rattle.promises.proofs.Blocks.{closes_row, closed_by, leaves_row}
 use Rattle.promises.proofs.Heads.{reads_it, refuses_it, reads_partly, counts_behind}
-open words use {open-brace, close-brace, comma, '=>'}
-open phrases use {BLOCK, ARMS, ARM, ARM-BODY, ARM-COMMA, ARM-NEXT, GUARD, PATTERN, EXPR}
 
 -- what a phrase leaves that stands last in another, which stands alone in a third
 through : (c b a : Draft) → with_phrase (with_phrase (with_phrase c b) blank) a ≡ with_phrase c (with_phrase b a)
@@ -193,10 +191,10 @@ module _ {s : List ℕ} {l : Limits} {c₀ c : ℕ} {h₀ h : Here} {t₀ t : Li
 
 -- a match
 module _ {s : List ℕ} {l : Limits} {start c : ℕ} {h₀ h : Here} {t₀ t : List ℕ} (b : Gone s l 1 h₀ t₀ c h t) where
-  armed_so : {f : Phrase} {d : Counts} {e : ℕ} {w : Option ℕ} → f.text ≡ s → inside body d ≡ counts l → Going f (at d (behind ARMS ∷ closes close-brace ∷ row kinds.MATCH ∷ []) ∷ []) h₀ t₀ (many start e 1 w) 0 1 → Arming f (counts l) (at d (closes close-brace ∷ row kinds.MATCH ∷ []) ∷ []) start c h t
-  armed_so {f} {d} q z g = b.arming f (at d (closes close-brace ∷ row kinds.MATCH ∷ []) ∷ []) start q (record { end = _; sign = _; going = stands_alone refl z g })
+  armed_so : {f : Phrase} {d : Counts} {e : ℕ} {w : Option ℕ} → f.text ≡ s → inside body d ≡ counts l → Going f (at d (behind ARMS ∷ closes close_brace ∷ row kinds.MATCH ∷ []) ∷ []) h₀ t₀ (many start e 1 w) 0 1 → Arming f (counts l) (at d (closes close_brace ∷ row kinds.MATCH ∷ []) ∷ []) start c h t
+  armed_so {f} {d} q z g = b.arming f (at d (closes close_brace ∷ row kinds.MATCH ∷ []) ∷ []) start q (record { end = _; sign = _; going = stands_alone refl z g })
 
-  pub arms_end : {since : ℕ} {v : Row} {r : Read} {t' : List ℕ} → (T (one_of (word_of h) names) → ⊥) → v ≡ plain_row kinds.MATCH start (end_of h) c → Closed s h t close-brace v since r t' → Matched s h₀ t₀ l start since r t'
+  pub arms_end : {since : ℕ} {v : Row} {r : Read} {t' : List ℕ} → (T (one_of (word_of h) names) → ⊥) → v ≡ plain_row kinds.MATCH start (end_of h) c → Closed s h t close_brace v since r t' → Matched s h₀ t₀ l start since r t'
   arms_end {r = r} n o k f d e w q i z g = leaves_row r (omega arith) (closes_row (out (arms_none n (armed_so q z g).going)) refl refl o (closed_by q i k))
 
   module _ (w : T (one_of (word_of h) names)) {r : Arm} {t' : List ℕ} (u : ArmOf s (counts l) h t r t') where
@@ -204,7 +202,7 @@ module _ {s : List ℕ} {l : Limits} {start c : ℕ} {h₀ h : Here} {t₀ t : L
     unfolding inside
     arms_fail since x o f d e i q j z g = let y = (armed_so q z g).going in stopped o (refuses_in y refl (refuses_in (begins_on arms_on y.stands w) refl (armed (arm_of q u) x)))
 
-    pub arms_last : {since : ℕ} {z : Here} {v : Row} {r₁ : Read} {t₁ : List ℕ} → r ≡ Arm.Last z → v ≡ plain_row kinds.MATCH start (end_of z) (c + 1) → Closed s z t' close-brace v since r₁ t₁ → Matched s h₀ t₀ l start since r₁ t₁
+    pub arms_last : {since : ℕ} {z : Here} {v : Row} {r₁ : Read} {t₁ : List ℕ} → r ≡ Arm.Last z → v ≡ plain_row kinds.MATCH start (end_of z) (c + 1) → Closed s z t' close_brace v since r₁ t₁ → Matched s h₀ t₀ l start since r₁ t₁
     arms_last {z = j} {v = v} {r₁ = r₁} {t₁ = t₁} x o k f d e i q n z g =
         let m : Armed (the f.text (counts l) ARM h t) [] j t' = armed (arm_of q u) x in
         leaves_row r₁ (omega arith) (closes_row (fewer 1 (omega arith) (out (arm_last w (armed_so q z g).going m.around))) refl refl o (closed_by q n k))
@@ -228,11 +226,11 @@ module _ (l : Limits) {s : List ℕ} {h h₁ : Here} {t : List ℕ} {l₁ : Limi
 
 -- the body of an arm
 module _ (l : Limits) {s : List ℕ} {h : Here} {t : List ℕ} {r : Read} {t' : List ℕ} where
-  pub body_block : word_of h ≡ open-brace → Answers (the s (counts l) BLOCK h t) 1 r t' → Bodied s h t l r t'
+  pub body_block : word_of h ≡ open_brace → Answers (the s (counts l) BLOCK h t) 1 r t' → Bodied s h t l r t'
   unfolding inside
   body_block i u f d ks y v k q z g = partly_as (reads_partly q z u (into_on arm_block_on refl (is_word i) g) refl) (λ m h' x. (λ o. x, λ o. absurd (o i)))
 
-  pub body_expr : word_of h ≢ open-brace → T (one_of (word_of h) expr_firsts) → Answers (the s (counts l) (EXPR records) h t) 1 r t' → Bodied s h t l r t'
+  pub body_expr : word_of h ≢ open_brace → T (one_of (word_of h) expr_firsts) → Answers (the s (counts l) (EXPR records) h t) 1 r t' → Bodied s h t l r t'
   unfolding inside
   body_expr n i u f d ks y v k q z g = partly_as (reads_partly q z u (none_of (λ m. n (the_word m)) (into_on arm_expr_on refl (brace_less (word_of h) i n) g)) refl) (λ m h' x. (λ o. absurd (n o), λ o. x))
 
@@ -249,7 +247,7 @@ around_last {f} {ks} {h} {t} {n = n} {o = o} e g = record { draft = g.draft; ope
 
 -- behind a block a comma may stand; behind an expr it must, where another arm follows
 module _ {f : Phrase} {h : Here} {t : List ℕ} {j x e v : ℕ} (begin : ℕ) {r : Arm} (u : r ≡ arm_end f.text h begin) where
-  comma_block : begin ≡ open-brace → Going f (at f.counts (a ARM-COMMA ∷ a ARMS ∷ []) ∷ at f.counts [] ∷ []) h t (lone j x e) v 1 → OneArm f r t
+  comma_block : begin ≡ open_brace → Going f (at f.counts (a ARM_COMMA ∷ a ARMS ∷ []) ∷ at f.counts [] ∷ []) h t (lone j x e) v 1 → OneArm f r t
   unfolding inside kept
   comma_block b g = subst (λ (k : Arm). OneArm f k t) (sym (u ∙ ap (arm_end f.text h) b)) (go (eqb (word_of h) comma) refl)
     where
@@ -257,9 +255,9 @@ module _ {f : Phrase} {h : Here} {t : List ℕ} {j x e v : ℕ} (begin : ℕ) {r
       go true y = let m = is_word (eqb→eq (word_of h) comma (subst T (sym y) tt)) in record { is = record { node = _; around = around_last refl (encloses_out (encloses_word (around_of (into_on arm_comma_on refl m g)) tt m tt refl)) } }
       go false y = record { is = record { node = _; around = around_of (last (out (into_off arm_comma_off refl (λ m. subst T (ap (eqb (word_of h)) (the_word m) ∙ y) (eqb_refl (word_of h))) g))) } }
 
-  comma_expr : after plain f.counts ≡ f.counts → begin ≢ open-brace → Going f (at f.counts (a ARM-NEXT ∷ []) ∷ at f.counts [] ∷ []) h t (lone j x e) v 1 → OneArm f r t
+  comma_expr : after plain f.counts ≡ f.counts → begin ≢ open_brace → Going f (at f.counts (a ARM_NEXT ∷ []) ∷ at f.counts [] ∷ []) h t (lone j x e) v 1 → OneArm f r t
   unfolding inside kept
-  comma_expr o b g = subst (λ (k : Arm). OneArm f k t) (sym (u ∙ ap (λ (y : Bool). cond (eqb (word_of h) comma) (Arm.Followed (passed f.text h)) (cond y (Arm.Followed h) (Arm.Last h))) (F→eq (eqb begin open-brace) (λ y. b (eqb→eq begin open-brace y))))) (go (eqb (word_of h) comma) refl)
+  comma_expr o b g = subst (λ (k : Arm). OneArm f k t) (sym (u ∙ ap (λ (y : Bool). cond (eqb (word_of h) comma) (Arm.Followed (passed f.text h)) (cond y (Arm.Followed h) (Arm.Last h))) (F→eq (eqb begin open_brace) (λ y. b (eqb→eq begin open_brace y))))) (go (eqb (word_of h) comma) refl)
     where
       go : (y : Bool) → eqb (word_of h) comma ≡ y → OneArm f (cond y (Arm.Followed (passed f.text h)) (Arm.Last h)) t
       go true y = let m = is_word (eqb→eq (word_of h) comma (subst T (sym y) tt)) in record { is = record { node = _; around = around_last o (encloses_word (around_of (into_on arm_next_on refl m (last g))) tt m tt refl) } }
@@ -272,27 +270,27 @@ module _ (l : Limits) {s : List ℕ} {h : Here} {t : List ℕ} (g : Stands s h) 
   arm_pattern_fails x i = arm_stops i x (refuses_in (begins_any arm_any g) refl (stopped_of u₁ x))
 
   module _ {m₁ : Node} {h₁ : Here} (e₁ : r₁ ≡ Done m₁ h₁) {r₂ : Read} {t₂ : List ℕ} (u₂ : Guarded s h₁ t₁ l r₂ t₂) where
-    arm_guard : Partly (the s (counts l) ARM h t) r₂ t₂ (λ m z. Perhaps (the s (counts l) ARM h t) (at (counts l) (word '=>' ∷ a ARM-BODY ∷ []) ∷ []) m₁.start 1 1 m.children z t₂)
+    arm_guard : Partly (the s (counts l) ARM h t) r₂ t₂ (λ m z. Perhaps (the s (counts l) ARM h t) (at (counts l) (word '=>' ∷ a ARM_BODY ∷ []) ∷ []) m₁.start 1 1 m.children z t₂)
     unfolding inside
-    arm_guard = u₂ (the s (counts l) ARM h t) (counts l) (word '=>' ∷ a ARM-BODY ∷ []) [] m₁.start m₁.end 1 1 none refl refl (as_many (reads_one (begins_any arm_any g) refl refl (whole_of u₁ e₁)))
+    arm_guard = u₂ (the s (counts l) ARM h t) (counts l) (word '=>' ∷ a ARM_BODY ∷ []) [] m₁.start m₁.end 1 1 none refl refl (as_many (reads_one (begins_any arm_any g) refl refl (whole_of u₁ e₁)))
 
     pub arm_guard_fails : {x : Refusal} {v : Arm} → r₂ ≡ Refused x → v ≡ last_arm r₂ → ArmOf s (counts l) h t v t₂
     arm_guard_fails x i = arm_stops i x (partly_stopped arm_guard x)
 
     module _ {m₂ : Node} {h₂ : Here} (e₂ : r₂ ≡ Done m₂ h₂) where
       -- the guard is one row at most; how far the arm has come
-      pub arm_guarded : Perhaps (the s (counts l) ARM h t) (at (counts l) (word '=>' ∷ a ARM-BODY ∷ []) ∷ []) m₁.start 1 1 m₂.children h₂ t₂
+      pub arm_guarded : Perhaps (the s (counts l) ARM h t) (at (counts l) (word '=>' ∷ a ARM_BODY ∷ []) ∷ []) m₁.start 1 1 m₂.children h₂ t₂
       arm_guarded = partly_of arm_guard e₂
 
       module _ {r₃ : Read} (u₃ : r₃ ≡ expected s h₂ 21) where
         pub arm_arrow_fails : {x : Refusal} {v : Arm} → r₃ ≡ Refused x → v ≡ last_arm r₃ → ArmOf s (counts l) h t v t₂
         arm_arrow_fails x i = arm_stops i x (misses 21 arm_guarded.going tt u₃ x)
 
-        pub arm_arrow : {m₃ : Node} {h₃ : Here} → r₃ ≡ Done m₃ h₃ → Going (the s (counts l) ARM h t) (at (after plain (counts l)) (a ARM-BODY ∷ []) ∷ []) h₃ t₂ (many m₁.start m₃.end (1 + m₂.children) (or_word arm_guarded.sign 21)) m₂.children 5
+        pub arm_arrow : {m₃ : Node} {h₃ : Here} → r₃ ≡ Done m₃ h₃ → Going (the s (counts l) ARM h t) (at (after plain (counts l)) (a ARM_BODY ∷ []) ∷ []) h₃ t₂ (many m₁.start m₃.end (1 + m₂.children) (or_word arm_guarded.sign 21)) m₂.children 5
         arm_arrow e₃ = expects 21 arm_guarded.going tt u₃ e₃
 
         module _ {m₃ : Node} {h₃ : Here} (e₃ : r₃ ≡ Done m₃ h₃) {l₁ : Limits} (p : l₁ ≡ plainly l) {r₄ : Read} {t₄ : List ℕ} (u₄ : Bodied s h₃ t₂ l₁ r₄ t₄) where
-          arm : Partly (the s (counts l) ARM h t) r₄ t₄ (λ m z. (word_of h₃ ≡ open-brace → Going (the s (counts l) ARM h t) (at (after plain (counts l)) (row kinds.ARM ∷ a ARM-COMMA ∷ a ARMS ∷ []) ∷ at (after plain (counts l)) [] ∷ []) z t₄ (many m₁.start m.end (1 + m₂.children + 1) (or_word arm_guarded.sign 21)) m₂.children 6) × (word_of h₃ ≢ open-brace → Going (the s (counts l) ARM h t) (at (after plain (counts l)) (row kinds.ARM ∷ a ARM-NEXT ∷ []) ∷ at (after plain (counts l)) [] ∷ []) z t₄ (many m₁.start m.end (1 + m₂.children + 1) (or_word arm_guarded.sign 21)) m₂.children 6))
+          arm : Partly (the s (counts l) ARM h t) r₄ t₄ (λ m z. (word_of h₃ ≡ open_brace → Going (the s (counts l) ARM h t) (at (after plain (counts l)) (row kinds.ARM ∷ a ARM_COMMA ∷ a ARMS ∷ []) ∷ at (after plain (counts l)) [] ∷ []) z t₄ (many m₁.start m.end (1 + m₂.children + 1) (or_word arm_guarded.sign 21)) m₂.children 6) × (word_of h₃ ≢ open_brace → Going (the s (counts l) ARM h t) (at (after plain (counts l)) (row kinds.ARM ∷ a ARM_NEXT ∷ []) ∷ at (after plain (counts l)) [] ∷ []) z t₄ (many m₁.start m.end (1 + m₂.children + 1) (or_word arm_guarded.sign 21)) m₂.children 6))
           arm = u₄ (the s (counts l) ARM h t) (after plain (counts l)) [] _ _ 5 refl (counts_behind l refl p) (arm_arrow e₃)
 
           pub arm_fails : {x : Refusal} {v : Arm} → r₄ ≡ Refused x → v ≡ last_arm r₄ → ArmOf s (counts l) h t v t₄
@@ -303,8 +301,8 @@ module _ (l : Limits) {s : List ℕ} {h : Here} {t : List ℕ} (g : Stands s h) 
             arm_row {ss} o x = subst (λ (d : Counts). Going (the s (counts l) ARM h t) (at d ss ∷ at d [] ∷ []) h₅ t₅ (lone v.kind v.start v.end) 0 1) (counts_same l o) (writes (fewer 2 (omega arith) x) refl refl (i ∙ ap (λ (c : ℕ). record { kind = kinds.ARM; start = m₁.start; end = m₄.end; children = c; value = m₂.children; detail = 0 }) (omega arith)) (sym (done_is u₅ e₅).1) q)
 
             pub arm_ends : {r : Arm} → l.signs ≡ 32 → r ≡ arm_end s h₅ (word_of h₃) → ArmOf s (counts l) h t r t₅
-            arm_ends {r} o x = go (eqb (word_of h₃) open-brace) refl
+            arm_ends {r} o x = go (eqb (word_of h₃) open_brace) refl
               where
-                go : (b : Bool) → eqb (word_of h₃) open-brace ≡ b → ArmOf s (counts l) h t r t₅
-                go true y = let m = eqb→eq (word_of h₃) open-brace (subst T (sym y) tt) in comma_block (word_of h₃) x m (arm_row o ((partly_of arm e₄).0 m))
-                go false y = let n : word_of h₃ ≢ open-brace = λ m. subst T (ap (eqb (word_of h₃)) m ∙ y) (eqb_refl (word_of h₃)) in comma_expr (word_of h₃) x (counts_same l o) n (arm_row o ((partly_of arm e₄).1 n))
+                go : (b : Bool) → eqb (word_of h₃) open_brace ≡ b → ArmOf s (counts l) h t r t₅
+                go true y = let m = eqb→eq (word_of h₃) open_brace (subst T (sym y) tt) in comma_block (word_of h₃) x m (arm_row o ((partly_of arm e₄).0 m))
+                go false y = let n : word_of h₃ ≢ open_brace = λ m. subst T (ap (eqb (word_of h₃)) m ∙ y) (eqb_refl (word_of h₃)) in comma_expr (word_of h₃) x (counts_same l o) n (arm_row o ((partly_of arm e₄).1 n))

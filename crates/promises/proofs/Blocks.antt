@@ -8,14 +8,14 @@ use Prim.Native.Nat.{ℕ, zero, suc, ◌+◌, ◌-◌, ◌≤◌, ◌<◌}
 use lib.Dec.{T, eqb, eqb→eq, eqb_refl}
 use lib.ListN.{length}
 use native.Mathlib.Omega.{arith}
-use Rattle.rows.specs.Kinds.{kinds}
+use Rattle.rows.specs.Kinds as kinds
 use Rattle.tokens.specs.declared.Refusal.{Refusal}
 use Rattle.rows.specs.declared.Row.{Row}
-use Rattle.grammar.specs.Words.{four_words, words}
+use Rattle.grammar.specs.Words.{open_brace, close_brace, semicolon, '=', 'import', 'let', four_words}
 use Rattle.grammar.specs.Grammar.{plain, opens_bracket, closes_bracket, Symbol, one_of}
 use Rattle.grammar.specs.Limits.{Counts, after, inside, kept}
 use Rattle.grammar.specs.Table.{word, a, row, closes, literal_row, rest_kinds}
-use Rattle.grammar.specs.Kinds.{records, phrases}
+use Rattle.grammar.specs.Kinds.{records, BLOCK, STATEMENTS, STATEMENT, AFTER_FOUR, AFTER_EXPR, LET, LET_TYPE, NAME, FOUR, EXPR}
 use Rattle.grammar.proofs.Bools.{or_cases}
 use Rattle.grammar.proofs.Summary.{or_word}
 use Rattle.grammar.proofs.Open.{Left}
@@ -38,8 +38,6 @@ use Rattle.promises.specs.Promises.{the, Anyhow, Partly, Closed, Perhaps, Typing
 use Rattle.promises.proofs.Alternatives.{plain_first, block_any, statements_on, statements_off, statement_four_on, statement_expr_on, statement_off, after_four_more_on, after_four_off, after_expr_off, let_any}
 use Rattle.promises.proofs.Answered.{further, of_text, put_behind}
 use Rattle.promises.proofs.Partly.{partly_of, partly, partly_stops, stops_answer}
-open words use {open-brace, close-brace, semicolon, '=', 'import', 'let'}
-open phrases use {BLOCK, STATEMENTS, STATEMENT, AFTER-FOUR, AFTER-EXPR, LET, LET-TYPE, NAME, FOUR, EXPR}
 
 -- past a `;` that is there
 is_past : (s : List ℕ) (z : Here) → word_of z ≡ semicolon → took s z ≡ past s z
@@ -47,23 +45,23 @@ is_past s z b = is_taken z.step (semicolon ∷ []) tt (is_word b) (past s z) (un
 
 -- a row over a list behind the `}` that closes it
 module _ {f : Phrase} {d : Counts} {ks : List Left} {h : Here} {t : List ℕ} {x e c v k : ℕ} {w : Option ℕ} {ss : List Symbol} {n : ℕ} where
-  pub closes_row : {q : Row} {r : Read} {t' : List ℕ} → Going f (at d (closes close-brace ∷ row n ∷ ss) ∷ ks) h t (many x e c w) v k → eqb n 0 ≡ false → eqb n literal_row ≡ false → q ≡ row_over n (with_token (many x e c w) h) v → Closed f.text h t close-brace q f.from.rows r t' → Partly f r t' (λ m h'. Going f (at (after closes_bracket d) ss ∷ ks) h' t' (lone m.kind m.start m.end) 0 k)
+  pub closes_row : {q : Row} {r : Read} {t' : List ℕ} → Going f (at d (closes close_brace ∷ row n ∷ ss) ∷ ks) h t (many x e c w) v k → eqb n 0 ≡ false → eqb n literal_row ≡ false → q ≡ row_over n (with_token (many x e c w) h) v → Closed f.text h t close_brace q f.from.rows r t' → Partly f r t' (λ m h'. Going f (at (after closes_bracket d) ss ∷ ks) h' t' (lone m.kind m.start m.end) 0 k)
   unfolding kept
-  closes_row {q} {r} {t'} g z l i u = go (eqb (word_of h) close-brace) refl
+  closes_row {q} {r} {t'} g z l i u = go (eqb (word_of h) close_brace) refl
     where
       G : Node → Here → Type 0
       G m h' = Going f (at (after closes_bracket d) ss ∷ ks) h' t' (lone m.kind m.start m.end) 0 k
 
-      closed : word_of h ≡ close-brace → Partly f r t' G
+      closed : word_of h ≡ close_brace → Partly f r t' G
       closed m =
           let b = u.closed m in
           partly b.0 (writes (fewer (k + 1) (omega arith) (takes g tt (is_word m) tt refl)) z l i refl (put_behind f.text h t q f.from.rows b.1))
 
-      missed : word_of h ≢ close-brace → Partly f r t' G
+      missed : word_of h ≢ close_brace → Partly f r t' G
       missed m = let b = u.other m in partly_stops b.0 (subst (λ (y : List ℕ). Stopped f (unused_at h) y) (sym b.1) (refuses_word g (λ y. m (the_word y))))
 
-      go : (b : Bool) → eqb (word_of h) close-brace ≡ b → Partly f r t' G
-      go true y = closed (eqb→eq (word_of h) close-brace (subst T (sym y) tt))
+      go : (b : Bool) → eqb (word_of h) close_brace ≡ b → Partly f r t' G
+      go true y = closed (eqb→eq (word_of h) close_brace (subst T (sym y) tt))
       go false y = missed (λ m. subst T (ap (λ (b : ℕ). eqb (word_of h) b) m ∙ y) (eqb_refl (word_of h)))
 
 -- the same of another name for the source and for where the rows began
@@ -76,26 +74,26 @@ leaves_row (Done m h) q u = record { is = ends (out (fewer 1 q u.is)) refl refl 
 leaves_row (Refused e) q u = record { is = u.is }
 
 -- a block
-module _ (s : List ℕ) (l : Limits) (h : Here) (t : List ℕ) {r : Read} (g : Stands s h) (o : r ≡ opening s h open-brace l.brackets) where
+module _ (s : List ℕ) (l : Limits) (h : Here) (t : List ℕ) {r : Read} (g : Stands s h) (o : r ≡ opening s h open_brace l.brackets) where
   pub block_refused : {e : Refusal} → r ≡ Refused e → Answers (the s (counts l) BLOCK h t) 1 r t
-  block_refused q = stopped q (opens_off open-brace l (begins_any block_any g) tt (alike_counts l) o q)
+  block_refused q = stopped q (opens_off open_brace l (begins_any block_any g) tt (alike_counts l) o q)
 
   module _ {m : Node} {z : Here} (q : r ≡ Done m z) where
-    block_opens : Going (the s (counts l) BLOCK h t) (at (after opens_bracket (counts l)) (a STATEMENTS ∷ closes close-brace ∷ row kinds.BLOCK ∷ []) ∷ []) z t (many m.start m.end 0 (some open-brace)) 0 4
-    block_opens = opens_on open-brace l (begins_any block_any g) tt (alike_counts l) o q
+    block_opens : Going (the s (counts l) BLOCK h t) (at (after opens_bracket (counts l)) (a STATEMENTS ∷ closes close_brace ∷ row kinds.BLOCK ∷ []) ∷ []) z t (many m.start m.end 0 (some open_brace)) 0 4
+    block_opens = opens_on open_brace l (begins_any block_any g) tt (alike_counts l) o q
 
     -- the statements are asked for further on
     pub block_inside : Stands s z × (next_of h < next_of z)
     block_inside = let x = block_opens.spares in let y = block_opens.counted in (block_opens.stands, omega (arith, x, y))
 
     pub block_read : {l' : Limits} {r' : Read} {t' : List ℕ} → l' ≡ opened l → Stated s z t l' m.start r' t' → Answers (the s (counts l) BLOCK h t) 1 r' t'
-    block_read {r' = r'} p u = leaves_row r' (omega arith) (u _ _ [] _ _ _ refl (counts_opened l (opening_done s h open-brace l.brackets o q).1 ∙ ap counts (sym p)) block_opens)
+    block_read {r' = r'} p u = leaves_row r' (omega arith) (u _ _ [] _ _ _ refl (counts_opened l (opening_done s h open_brace l.brackets o q).1 ∙ ap counts (sym p)) block_opens)
 
 -- Statements that were read: c of them, and by n how the last ended: 0 with its `;`, 1 as one of the four without. Another
 -- may follow.
 abbrev state_left : ℕ → List Symbol
 state_left zero = a STATEMENTS ∷ []
-state_left (suc n) = a AFTER-FOUR ∷ []
+state_left (suc n) = a AFTER_FOUR ∷ []
 
 pub record Stating (f : Phrase) (d : Counts) (ks : List Left) (x c k n : ℕ) (h : Here) (t : List ℕ) : Type 0 where
   pub end : ℕ
@@ -126,7 +124,7 @@ module _ {f : Phrase} {d : Counts} {ks : List Left} {x c k : ℕ} {h : Here} {t 
   states_all (suc (suc n)) g m = absurd (let q = g.one in omega (arith, q))
 
   -- it is the last: an expr without `;`
-  states_last : (g : Ended f d ks x c k AFTER-EXPR h t) → word_of h ≢ semicolon → Going f ks h t (many x g.end (c + 1) g.sign) 1 k
+  states_last : (g : Ended f d ks x c k AFTER_EXPR h t) → word_of h ≢ semicolon → Going f ks h t (many x g.end (c + 1) g.sign) 1 k
   unfolding inside
   states_last g n = out (out (parts (into_off after_expr_off refl (λ m. n (the_word m)) g.going)))
 
@@ -163,7 +161,7 @@ module _ (s : List ℕ) (l : Limits) {c₀ n₀ : ℕ} {h₀ : Here} {t₀ : Lis
     pub goes_four : r ≡ Stmt.Four z → Goes s l c₀ n₀ h₀ t₀ (c + 1) 1 z t'
     goes_four e f d ks x k p q v =
         let y = g f d ks x k p q v in
-        let w : Ended f d ks x c k AFTER-FOUR z t' × (word_of z ≢ semicolon) = stated e (u f d ks x y.end c k y.sign p q (begins_next n y b)) in
+        let w : Ended f d ks x c k AFTER_FOUR z t' × (word_of z ≢ semicolon) = stated e (u f d ks x y.end c k y.sign p q (begins_next n y b)) in
         record { end = w.0.end; sign = w.0.sign; one = omega arith; unended = λ o. w.1; going = w.0.going }
 
 -- a round of that loop: each statement has a token at least
@@ -205,7 +203,7 @@ module _ (s : List ℕ) (h : Here) {r : Stmt} {z : Here} (v : BeyondStatement s 
 abbrev pub block_row : ℕ → ℕ → ℕ → ℕ → Row
 block_row x e c v = record { kind = kinds.BLOCK; start = x; end = e; children = c; value = v; detail = 0 }
 
-closes_block : {f : Phrase} {s : List ℕ} {since : ℕ} {d : Counts} {ks : List Left} {h : Here} {t : List ℕ} {x e c v k : ℕ} {w : Option ℕ} {q : Row} {r : Read} {t' : List ℕ} → f.text ≡ s → f.from.rows ≡ since → Going f (at d (closes close-brace ∷ row kinds.BLOCK ∷ []) ∷ ks) h t (many x e c w) v k → q ≡ block_row x (end_of h) c v → Closed s h t close-brace q since r t' → Partly f r t' (λ m h'. Going f (at (after closes_bracket d) [] ∷ ks) h' t' (lone m.kind m.start m.end) 0 k)
+closes_block : {f : Phrase} {s : List ℕ} {since : ℕ} {d : Counts} {ks : List Left} {h : Here} {t : List ℕ} {x e c v k : ℕ} {w : Option ℕ} {q : Row} {r : Read} {t' : List ℕ} → f.text ≡ s → f.from.rows ≡ since → Going f (at d (closes close_brace ∷ row kinds.BLOCK ∷ []) ∷ ks) h t (many x e c w) v k → q ≡ block_row x (end_of h) c v → Closed s h t close_brace q since r t' → Partly f r t' (λ m h'. Going f (at (after closes_bracket d) [] ∷ ks) h' t' (lone m.kind m.start m.end) 0 k)
 closes_block p n g i u = closes_row g refl refl i (closed_by p n u)
 
 module _ (s : List ℕ) (l : Limits) {start : ℕ} {h₀ : Here} {t₀ : List ℕ} {c n : ℕ} {h : Here} {t : List ℕ} (g : Goes s l 0 0 h₀ t₀ c n h t) where
@@ -215,13 +213,13 @@ module _ (s : List ℕ) (l : Limits) {start : ℕ} {h₀ : Here} {t₀ : List �
         let y = g f d _ start k p i (states_none v) in
         partly_stops o (stated q (u f d _ start y.end c k y.sign p i (begins_next n y b)))
 
-    pub stmts_last : {z : Here} {q : Row} {r' : Read} {t'' : List ℕ} → r ≡ Stmt.Last z → q ≡ block_row start (end_of z) (c + 1) 1 → Closed s z t' close-brace q h₀.rows r' t'' → Stated s h₀ t₀ l start r' t''
+    pub stmts_last : {z : Here} {q : Row} {r' : Read} {t'' : List ℕ} → r ≡ Stmt.Last z → q ≡ block_row start (end_of z) (c + 1) 1 → Closed s z t' close_brace q h₀.rows r' t'' → Stated s h₀ t₀ l start r' t''
     stmts_last {z} o j x f d ks e k w p i v =
         let y = g f d _ start k p i (states_none v) in
-        let m : Ended f d (at d (closes close-brace ∷ row kinds.BLOCK ∷ []) ∷ ks) start c k AFTER-EXPR z t' × (word_of z ≢ semicolon) = stated o (u f d _ start y.end c k y.sign p i (begins_next n y b)) in
+        let m : Ended f d (at d (closes close_brace ∷ row kinds.BLOCK ∷ []) ∷ ks) start c k AFTER_EXPR z t' × (word_of z ≢ semicolon) = stated o (u f d _ start y.end c k y.sign p i (begins_next n y b)) in
         closes_block p (none_yet v) (states_last m.0 m.1) j x
 
-  pub stmts_end : {q : Row} {r : Read} {t' : List ℕ} → (T (one_of (word_of h) statement_firsts) → ⊥) → q ≡ block_row start (end_of h) c n → Closed s h t close-brace q h₀.rows r t' → Stated s h₀ t₀ l start r t'
+  pub stmts_end : {q : Row} {r : Read} {t' : List ℕ} → (T (one_of (word_of h) statement_firsts) → ⊥) → q ≡ block_row start (end_of h) c n → Closed s h t close_brace q h₀.rows r t' → Stated s h₀ t₀ l start r t'
   stmts_end b j x f d ks e k w p i v = closes_block p (none_yet v) (states_all n (g f d _ start k p i (states_none v)) b) j x
 
 -- a statement that is a phrase with its `;`
@@ -255,7 +253,7 @@ module _ (s : List ℕ) (l : Limits) (h : Here) (t : List ℕ) {r : Read} {t' : 
     unfolding inside
     four_refused i j f d ks x e c k w p q g = states (ended_refused j i) (refuses_in (into_on statement_four_on refl b g) refl (stopped_of (of_text f p q u) i))
 
-    pub behind_four : {m : Node} {z : Here} → r ≡ Done m z → Behind AFTER-FOUR s h t l m.end z t'
+    pub behind_four : {m : Node} {z : Here} → r ≡ Done m z → Behind AFTER_FOUR s h t l m.end z t'
     unfolding inside
     behind_four i f d ks x e c k w p q g = fewer k (omega arith) (last (reads_one (into_on statement_four_on refl b g) refl refl (whole_of (of_text f p q u) i)))
 
@@ -265,7 +263,7 @@ module _ (s : List ℕ) (l : Limits) (h : Here) (t : List ℕ) {r : Read} {t' : 
     unfolding inside
     expr_refused i j f d ks x e c k w p q g = states (ended_refused j i) (refuses_in (none_of n (into_on statement_expr_on refl (plain_first (word_of h) b n) g)) refl (stopped_of (of_text f p q u) i))
 
-    pub behind_expr : {m : Node} {z : Here} → r ≡ Done m z → Behind AFTER-EXPR s h t l m.end z t'
+    pub behind_expr : {m : Node} {z : Here} → r ≡ Done m z → Behind AFTER_EXPR s h t l m.end z t'
     unfolding inside
     behind_expr i f d ks x e c k w p q g = fewer k (omega arith) (last (reads_one (none_of n (into_on statement_expr_on refl (plain_first (word_of h) b n) g)) refl refl (whole_of (of_text f p q u) i)))
 
@@ -278,10 +276,10 @@ no_statement s l h t v o b i j f d ks x e c k w p q g = states (ended_refused j 
 
 -- how it ends: without `;`; with it
 module _ (s : List ℕ) (l : Limits) (h : Here) (t : List ℕ) {end : ℕ} {z : Here} {t' : List ℕ} {r : Stmt} where
-  pub ends_four : Behind AFTER-FOUR s h t l end z t' → word_of z ≢ semicolon → r ≡ Stmt.Four z → Statement s h t l r t'
+  pub ends_four : Behind AFTER_FOUR s h t l end z t' → word_of z ≢ semicolon → r ≡ Stmt.Four z → Statement s h t l r t'
   ends_four u o i f d ks x e c k w p q g = states i (record { end = end; sign = w; going = u f d ks x e c k w p q g }, o)
 
-  pub ends_last : Behind AFTER-EXPR s h t l end z t' → word_of z ≢ semicolon → r ≡ Stmt.Last z → Statement s h t l r t'
+  pub ends_last : Behind AFTER_EXPR s h t l end z t' → word_of z ≢ semicolon → r ≡ Stmt.Last z → Statement s h t l r t'
   ends_last u o i f d ks x e c k w p q g = states i (record { end = end; sign = w; going = u f d ks x e c k w p q g }, o)
 
   pub ends_with : (n : ℕ) → Behind n s h t l end z t' → On n (some (word semicolon ∷ a STATEMENTS ∷ [])) (semicolon ∷ []) → one_of n rest_kinds ≡ true → l.signs ≡ 32 → word_of z ≡ semicolon → {q : Read} → q ≡ took s z → r ≡ ended_by q → Statement s h t l r t'
@@ -319,9 +317,9 @@ module _ (s : List ℕ) (l : Limits) (h : Here) (t : List ℕ) (g : Stands s h) 
   pub let_name : Stands s h₁ × (next_of h < next_of h₁)
   let_name = let p = past_word ('let' ∷ []) g tt (is_word b) e in (p.0, p.1)
 
-  let_going : Going Let (at (counts (plainly l)) (a NAME ∷ a LET-TYPE ∷ word '=' ∷ a (EXPR records) ∷ word semicolon ∷ row kinds.LET ∷ []) ∷ []) h₁ t (many (start_of h) (end_of h) 0 (some 'let')) 0 4
+  let_going : Going Let (at (counts (plainly l)) (a NAME ∷ a LET_TYPE ∷ word '=' ∷ a (EXPR records) ∷ word semicolon ∷ row kinds.LET ∷ []) ∷ []) h₁ t (many (start_of h) (end_of h) 0 (some 'let')) 0 4
   unfolding kept
-  let_going = subst (λ (w : ℕ). Going Let (at (counts (plainly l)) (a NAME ∷ a LET-TYPE ∷ word '=' ∷ a (EXPR records) ∷ word semicolon ∷ row kinds.LET ∷ []) ∷ []) h₁ t (many (start_of h) (end_of h) 0 (some w)) 0 4) b (subst (λ (d : Counts). Going Let (at d (a NAME ∷ a LET-TYPE ∷ word '=' ∷ a (EXPR records) ∷ word semicolon ∷ row kinds.LET ∷ []) ∷ []) h₁ t (many (start_of h) (end_of h) 0 (some (word_of h))) 0 4) (counts_plain l) (takes (begins_any let_any g) tt (is_word b) tt e))
+  let_going = subst (λ (w : ℕ). Going Let (at (counts (plainly l)) (a NAME ∷ a LET_TYPE ∷ word '=' ∷ a (EXPR records) ∷ word semicolon ∷ row kinds.LET ∷ []) ∷ []) h₁ t (many (start_of h) (end_of h) 0 (some w)) 0 4) b (subst (λ (d : Counts). Going Let (at d (a NAME ∷ a LET_TYPE ∷ word '=' ∷ a (EXPR records) ∷ word semicolon ∷ row kinds.LET ∷ []) ∷ []) h₁ t (many (start_of h) (end_of h) 0 (some (word_of h))) 0 4) (counts_plain l) (takes (begins_any let_any g) tt (is_word b) tt e))
 
   module _ {r₁ : Read} {t₁ : List ℕ} (u₁ : Anyhow s NAME h₁ t 3 r₁ t₁) where
     pub let_nameless : {x : Refusal} → r₁ ≡ Refused x → Answers Let 1 r₁ t₁
@@ -329,7 +327,7 @@ module _ (s : List ℕ) (l : Limits) (h : Here) (t : List ℕ) (g : Stands s h) 
     let_nameless i = relays let_going refl (u₁ (counts (plainly l))) i
 
     module _ {m₁ : Node} {h₂ : Here} (i₁ : r₁ ≡ Done m₁ h₂) where
-      let_named : Going Let (at (counts (plainly l)) (a LET-TYPE ∷ word '=' ∷ a (EXPR records) ∷ word semicolon ∷ row kinds.LET ∷ []) ∷ []) h₂ t₁ (many (start_of h) m₁.end 1 (some 'let')) 0 7
+      let_named : Going Let (at (counts (plainly l)) (a LET_TYPE ∷ word '=' ∷ a (EXPR records) ∷ word semicolon ∷ row kinds.LET ∷ []) ∷ []) h₂ t₁ (many (start_of h) m₁.end 1 (some 'let')) 0 7
       unfolding inside
       let_named = reads_one let_going refl refl (whole_of (u₁ (counts (plainly l))) i₁)
 
@@ -338,7 +336,7 @@ module _ (s : List ℕ) (l : Limits) (h : Here) (t : List ℕ) (g : Stands s h) 
 
       module _ {l' : Limits} (q : l' ≡ plainly l) {r₂ : Read} {t₂ : List ℕ} (u₂ : Typing s h₂ t₁ l' 46 r₂ t₂) where
         typed : Partly Let r₂ t₂ (λ m z. Perhaps Let (at (counts (plainly l)) (word '=' ∷ a (EXPR records) ∷ word semicolon ∷ row kinds.LET ∷ []) ∷ []) (start_of h) 1 7 m.children z t₂)
-        typed = u₂ Let (counts (plainly l)) _ [] LET-TYPE (start_of h) m₁.end 1 7 (some 'let') refl (ap counts (sym q)) (inr (refl, refl)) let_named
+        typed = u₂ Let (counts (plainly l)) _ [] LET_TYPE (start_of h) m₁.end 1 7 (some 'let') refl (ap counts (sym q)) (inr (refl, refl)) let_named
 
         pub let_untyped : {x : Refusal} → r₂ ≡ Refused x → Answers Let 1 r₂ t₂
         let_untyped i = stops_answer typed i

@@ -10,13 +10,13 @@ use lib.ListN.{length, set, length-set}
 use native.Mathlib.Omega.{arith}
 use borrow.Author.Tests.{eq-eqb, ne_eqb}
 use native.Mathlib.Numerals.{add-one}
-use Rattle.rows.specs.Kinds.{kinds}
+use Rattle.rows.specs.Kinds as kinds
 use Rattle.tokens.specs.declared.Refusal.{Refusal}
 use Rattle.rows.specs.declared.Row.{Row}
 use Rattle.grammar.specs.Grammar.{body}
 use Rattle.grammar.specs.Limits.{Counts, inside}
 use Rattle.grammar.specs.Table.{a, behind, row}
-use Rattle.grammar.specs.Kinds.{phrases}
+use Rattle.grammar.specs.Kinds.{ELSE, ELSE_PART, ELSE_IF}
 use Rattle.parser.proofs.Sides.{none_yet}
 use Rattle.parser.proofs.Steps.{under_done, some_left, used_more}
 use Rattle.parser.specs.declared.Here.{Here}
@@ -36,7 +36,6 @@ use Rattle.promises.proofs.Answered.{put_since, rows_small, finished}
 use Rattle.promises.proofs.Heads.{Head, reads_it, refuses_it, else_none, else_word, else_if_deep, else_if_on, under_past}
 use Rattle.promises.proofs.Partly.{partly_of, stops_answer}
 use Rattle.promises.proofs.Overs.{Over, over_none, over_refused, over_ends, over_deeper, pushed_set, pushed_none}
-open phrases use {ELSE, ELSE-PART, ELSE-IF}
 
 -- f₀ ends with the `if` that the loop is in, behind whose word it stands; n `if`s stand before that one.
 pub record Linked (s : List ℕ) (f₀ : Phrase) (l : Limits) (h : Here) (t : List ℕ) (start since : ℕ) (starts sinces details : List ℕ) (n : ℕ) : Type 0 where
@@ -55,7 +54,7 @@ linked_in s h l c e k = k ∙ ap (under s h) (e ∙ ap (λ (x : Bool). cond x 0 
 
 -- past the `if` behind an `else`, or not
 module _ (l : Limits) {s : List ℕ} {h : Here} {r : Read} (g : Stands s h) (i : word_of h ≡ 69) (p : r ≡ linked s h l) where
-  pub linked_fails : (t : List ℕ) {e : Refusal} → r ≡ Refused e → Answers (the s (counts l) ELSE-IF h t) 1 r t
+  pub linked_fails : (t : List ℕ) {e : Refusal} → r ≡ Refused e → Answers (the s (counts l) ELSE_IF h t) 1 r t
   linked_fails t {e} q = else_if_deep l g i p (go (eqb l.chain 0) (eqb→eq l.chain 0)) q
     where
       go : (b : Bool) → (T b → l.chain ≡ 0) → cond b 0 l.heads ≡ 0 → 0 < l.heads → 0 < l.chain → ⊥
@@ -100,7 +99,7 @@ module _ {s : List ℕ} {l₀ : Limits} {h₀ : Here} {t₀ : List ℕ} {x₀ : 
 
     module _ {h₂ : Here} (i : word_of h₁ ≡ 63) (p : h₂ ≡ passed s h₁) where
       -- behind its `else`
-      behind_else : {f : Phrase} (k : Linked s f l h t x y₀ starts sinces details n) → Going k.inner (at (counts l) (a ELSE-PART ∷ []) ∷ at k.head.at_counts (row kinds.IF ∷ []) ∷ []) h₂ t₁ (many x (end_of h₁) 2 (some k.head.sign)) 0 10
+      behind_else : {f : Phrase} (k : Linked s f l h t x y₀ starts sinces details n) → Going k.inner (at (counts l) (a ELSE_PART ∷ []) ∷ at k.head.at_counts (row kinds.IF ∷ []) ∷ []) h₂ t₁ (many x (end_of h₁) 2 (some k.head.sign)) 0 10
       behind_else k = else_word l k.head.body_so w.unsigned i (subst (λ (y : List ℕ). h₂ ≡ passed y h₁) (sym k.text) p) (partly_of (tested k) e₁)
 
       pub links_else : {r₂ r₃ : Read} {t₂ t₃ : List ℕ} → Elsed s h₂ t₁ l x y₀ r₂ t₂ → r₃ ≡ over_read starts details 28 3 n r₂ → t₃ ≡ over_table starts sinces details 28 3 n r₂ t₂ → Headed after_if s h₀ t₀ l₀ x₀ r₃ t₃
@@ -108,16 +107,16 @@ module _ {s : List ℕ} {l₀ : Limits} {h₀ : Here} {t₀ : List ℕ} {x₀ : 
 
       -- another `if` there
       module _ (g₂ : Stands s h₂) (j : word_of h₂ ≡ 69) where
-        in_chain : {f : Phrase} (k : Linked s f l h t x y₀ starts sinces details n) → Going k.inner (at (counts l) (a ELSE-IF ∷ []) ∷ at (counts l) [] ∷ at k.head.at_counts (row kinds.IF ∷ []) ∷ []) h₂ t₁ (many x (end_of h₁) 2 (some k.head.sign)) 0 10
+        in_chain : {f : Phrase} (k : Linked s f l h t x y₀ starts sinces details n) → Going k.inner (at (counts l) (a ELSE_IF ∷ []) ∷ at (counts l) [] ∷ at k.head.at_counts (row kinds.IF ∷ []) ∷ []) h₂ t₁ (many x (end_of h₁) 2 (some k.head.sign)) 0 10
         unfolding inside
         in_chain k = into_on elses_if_on refl (is_word j) (behind_else k)
 
         module _ {f : Phrase} (k : Linked s f l h t x y₀ starts sinces details n) where
-          chain_fails : (y : Refusal) (t₂ : List ℕ) → Answers (the s (counts l) ELSE-IF h₂ t₁) 1 (Refused y) t₂ → Answers k.inner 1 (Refused y) t₂
+          chain_fails : (y : Refusal) (t₂ : List ℕ) → Answers (the s (counts l) ELSE_IF h₂ t₁) 1 (Refused y) t₂ → Answers k.inner 1 (Refused y) t₂
           unfolding inside
           chain_fails y t₂ u = stopped refl (refuses_it k.text refl u (in_chain k) refl)
 
-          chain_valued : (m : Node) (z : Here) (t₂ t₃ : List ℕ) (v : Row) → Answers (the s (counts l) ELSE-IF h₂ t₁) 1 (Done m z) t₂ → v ≡ plain_row kinds.IF x m.end 3 → t₃ ≡ put_over t₂ z v y₀ → Answers k.inner 1 (Done (node_of v) (later z)) t₃
+          chain_valued : (m : Node) (z : Here) (t₂ t₃ : List ℕ) (v : Row) → Answers (the s (counts l) ELSE_IF h₂ t₁) 1 (Done m z) t₂ → v ≡ plain_row kinds.IF x m.end 3 → t₃ ≡ put_over t₂ z v y₀ → Answers k.inner 1 (Done (node_of v) (later z)) t₃
           unfolding inside
           chain_valued m z t₂ t₃ v u o y = finished (out (out (reads_it k.text refl u (in_chain k) refl refl))) (omega arith) refl refl o refl (put_since _ z _ k.began y)
 
@@ -126,7 +125,7 @@ module _ {s : List ℕ} {l₀ : Limits} {h₀ : Here} {t₀ : List ℕ} {x₀ : 
           links_long {y} e₂ f d e v q z b g =
               let k = w.links f d e v q z b g in
               let u = linked_fails l g₂ j p₂ t₁ e₂ in
-              over_refused k.over (subst (λ (r : Read). Answers k.inner 1 r t₁) (sym e₂) (chain_fails k y t₁ (subst (λ (r : Read). Answers (the s (counts l) ELSE-IF h₂ t₁) 1 r t₁) e₂ u))) e₂
+              over_refused k.over (subst (λ (r : Read). Answers k.inner 1 r t₁) (sym e₂) (chain_fails k y t₁ (subst (λ (r : Read). Answers (the s (counts l) ELSE_IF h₂ t₁) 1 r t₁) e₂ u))) e₂
 
           module _ {m₂ : Node} {h₃ : Here} (e₂ : r₂ ≡ Done m₂ h₃) where
             pub links_behind : Stands s h₃ × (next_of h₂ < next_of h₃) × (n < 32)
@@ -159,9 +158,9 @@ module _ {s : List ℕ} {l₀ : Limits} {h₀ : Here} {t₀ : List ℕ} {x₀ : 
                     let i = w.room.0 in
                     let v = w.room.1 in
                     record {
-                      inner = the s (counts l) ELSE-IF h₂ t₁;
+                      inner = the s (counts l) ELSE_IF h₂ t₁;
                       text = refl;
                       began = refl;
                       head = else_if_on l g₂ j o.1 o.0 c e₂;
-                      over = subst (Over f (the s (counts l) ELSE-IF h₂ t₁) starts' sinces' details 28 3) (sym (add-one n)) (over_deeper k.over (pushed_set starts n x (omega (arith, y, i)) d) (pushed_set sinces n y₀ (omega (arith, y, v)) a₄) (pushed_none n w.bare) (chain_valued k) (chain_fails k));
+                      over = subst (Over f (the s (counts l) ELSE_IF h₂ t₁) starts' sinces' details 28 3) (sym (add-one n)) (over_deeper k.over (pushed_set starts n x (omega (arith, y, i)) d) (pushed_set sinces n y₀ (omega (arith, y, v)) a₄) (pushed_none n w.bare) (chain_valued k) (chain_fails k));
                     }

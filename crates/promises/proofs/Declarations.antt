@@ -7,14 +7,14 @@ use mathlib.Core.Logic.{◌⊎◌, inl, inr, ◌≢◌}
 use Prim.Native.Nat.{ℕ, ◌+◌, ◌≤◌, ◌<◌}
 use lib.Dec.{T, eqb, eqb→eq, eqb_refl}
 use native.Mathlib.Omega.{arith}
-use Rattle.rows.specs.Kinds.{kinds}
+use Rattle.rows.specs.Kinds as kinds
 use Rattle.tokens.specs.declared.Refusal.{Refusal}
 use Rattle.rows.specs.declared.Row.{Row}
-use Rattle.grammar.specs.Words.{filter_words, words}
+use Rattle.grammar.specs.Words.{':', '=', semicolon, filter_words}
 use Rattle.grammar.specs.Grammar.{Symbol, token, plain, one_of}
 use Rattle.grammar.specs.Limits.{after, inside, kept}
 use Rattle.grammar.specs.Table.{a, row, word}
-use Rattle.grammar.specs.Kinds.{records, phrases}
+use Rattle.grammar.specs.Kinds.{records, DECLARATION, NAME, PARAMS, RESULT, TYPED_NAMES, IMPORT, TYPE, BLOCK, EXPR}
 use Rattle.grammar.specs.Rows.{detail_for}
 use Rattle.grammar.proofs.Bools.{or_cases}
 use Rattle.parser.specs.declared.Here.{Here}
@@ -34,8 +34,6 @@ use Rattle.promises.specs.Promises.{the, Anyhow, Partly, Listed, Typing, Perhaps
 use Rattle.promises.proofs.Alternatives.{declaration_const_on, declaration_fn_on, declaration_filter_on, declaration_import_on, declaration_test_on, declaration_off, params_any}
 use Rattle.promises.proofs.Answered.{none_fits}
 use Rattle.promises.proofs.Partly.{partly_of, stops_answer}
-open words use {':', '=', semicolon}
-open phrases use {DECLARATION, NAME, PARAMS, RESULT, TYPED-NAMES, IMPORT, TYPE, BLOCK, EXPR}
 
 -- the words of a match, and none of them
 not_in : (x c : ℕ) (w : List ℕ) → x ≢ c → (T (one_of x w) → ⊥) → T (one_of x (c ∷ w)) → ⊥
@@ -142,7 +140,7 @@ module _ (s : List ℕ) (l : Limits) (i : Here) (t₀ : List ℕ) (g : Stands s 
                   const_read e₆ e p = done p.0 (ends (out (writes (fewer 2 (omega arith) (expects 47 const_value tt q₆ e₆)) refl refl e refl p.1)) refl refl refl)
 
   -- the list behind its name
-  module _ {w : List ℕ} {ss : List Symbol} (c : On DECLARATION (some (token plain w ∷ a NAME ∷ a PARAMS ∷ ss)) w) (o : T (solid w)) (m : T (one_of (word_of i) w)) {j : Here} (b : j ≡ passed s i) {r₁ : Read} {t₁ : List ℕ} (u₁ : Anyhow s NAME j t₀ 3 r₁ t₁) {n₁ : Node} {h₁ : Here} (e₁ : r₁ ≡ Done n₁ h₁) {r₂ : Read} {t₂ : List ℕ} (u₂ : Listed s h₁ t₁ (plainly l) 42 TYPED-NAMES 43 r₂ t₂) where
+  module _ {w : List ℕ} {ss : List Symbol} (c : On DECLARATION (some (token plain w ∷ a NAME ∷ a PARAMS ∷ ss)) w) (o : T (solid w)) (m : T (one_of (word_of i) w)) {j : Here} (b : j ≡ passed s i) {r₁ : Read} {t₁ : List ℕ} (u₁ : Anyhow s NAME j t₀ 3 r₁ t₁) {n₁ : Node} {h₁ : Here} (e₁ : r₁ ≡ Done n₁ h₁) {r₂ : Read} {t₂ : List ℕ} (u₂ : Listed s h₁ t₁ (plainly l) 42 TYPED_NAMES 43 r₂ t₂) where
     listed_partly : Partly Declared r₂ t₂ (λ n h. Going Declared (at (counts (plainly l)) [] ∷ at (counts (plainly l)) ss ∷ []) h t₂ (many (start_of i) n.end (1 + n.children) (some (word_of i))) 0 11)
     unfolding inside after counts
     listed_partly = u₂ Declared (counts (plainly l)) [] (at (counts (plainly l)) ss ∷ []) _ 0 7 refl (alike_counts (plainly l)) (into_off params_any refl (λ z. z) (named c o m b u₁ e₁))
@@ -162,7 +160,7 @@ module _ (s : List ℕ) (l : Limits) (i : Here) (t₀ : List ℕ) (g : Stands s 
       pub fn_named : Stands s h₁
       fn_named = (named declaration_fn_on tt (is_word m) b u₁ e₁).stands
 
-      module _ {r₂ : Read} {t₂ : List ℕ} (u₂ : Listed s h₁ t₁ (plainly l) 42 TYPED-NAMES 43 r₂ t₂) where
+      module _ {r₂ : Read} {t₂ : List ℕ} (u₂ : Listed s h₁ t₁ (plainly l) 42 TYPED_NAMES 43 r₂ t₂) where
         pub fn_unlisted : {e : Refusal} → r₂ ≡ Refused e → Answers Declared 1 r₂ t₂
         fn_unlisted e = unlisted declaration_fn_on tt (is_word m) b u₁ e₁ u₂ e
 
@@ -199,7 +197,7 @@ module _ (s : List ℕ) (l : Limits) (i : Here) (t₀ : List ℕ) (g : Stands s 
       pub filter_named : Stands s h₁
       filter_named = (named declaration_filter_on tt m b u₁ e₁).stands
 
-      module _ {r₂ : Read} {t₂ : List ℕ} (u₂ : Listed s h₁ t₁ (plainly l) 42 TYPED-NAMES 43 r₂ t₂) where
+      module _ {r₂ : Read} {t₂ : List ℕ} (u₂ : Listed s h₁ t₁ (plainly l) 42 TYPED_NAMES 43 r₂ t₂) where
         pub filter_unlisted : {e : Refusal} → r₂ ≡ Refused e → Answers Declared 1 r₂ t₂
         filter_unlisted e = unlisted declaration_filter_on tt m b u₁ e₁ u₂ e
 

@@ -7,14 +7,14 @@ use mathlib.Core.Logic.{◌⊎◌, inl, inr, ◌≢◌}
 use Prim.Native.Nat.{ℕ, zero, suc, ◌+◌, ◌≤◌, ◌<◌}
 use lib.Dec.{T, eqb, eqb→eq, eqb_refl, T_not}
 use native.Mathlib.Omega.{arith}
-use Rattle.rows.specs.Kinds.{kinds}
+use Rattle.rows.specs.Kinds as kinds
 use Rattle.tokens.specs.declared.Refusal.{Refusal}
 use Rattle.rows.specs.declared.Row.{Row}
-use Rattle.grammar.specs.Words.{compare_signs, sum_signs, product_signs, assign_signs, return_words, words}
+use Rattle.grammar.specs.Words.{'||', '&&', compare_signs, sum_signs, product_signs, assign_signs, return_words}
 use Rattle.grammar.specs.Grammar.{plain, is_prefix, Symbol, left_side, one_of}
 use Rattle.grammar.specs.Limits.{Counts, after, inside, kept}
 use Rattle.grammar.specs.Table.{a, one, prefix, row, nothing, rest_kinds}
-use Rattle.grammar.specs.Kinds.{phrases}
+use Rattle.grammar.specs.Kinds.{EXPR, RETURNED, ASSIGNED, BINARY, OR_MORE, AND_MORE, COMPARE_MORE, SUM_MORE, PRODUCT_MORE, OPERAND}
 use Rattle.grammar.specs.Rows.{place_in, detail_for}
 use Rattle.grammar.specs.Refusals.{stops_none, stops_in, stops_side_none, stops_side_in}
 use Rattle.grammar.specs.Refusals as refusals
@@ -39,8 +39,6 @@ use Rattle.promises.specs.Firsts.{operand_firsts, expr_firsts, level_of, ends_re
 use Rattle.promises.specs.Promises.{the, LEVEL}
 use Rattle.promises.proofs.Answered.{further, done_is, finished, finished_in}
 use Rattle.promises.proofs.Alternatives.{but_for, expr_return_on, expr_side_on, returned_is, returned_on, returned_off, returned_any, assigned_on, assigned_off, binary_any, or_more_on, or_more_off, and_any, and_more_on, and_more_off, compare_any, compare_more_on, compare_more_off, sum_any, sum_more_on, sum_more_off, product_any, product_more_on, product_more_off, operand_not_on, operand_minus_on, rest_assigned, rest_binary, rest_or_more, rest_and, rest_and_more, rest_compare, rest_compare_more, rest_sum, rest_sum_more, rest_product, rest_product_more, rest_operand}
-open words use {'||', '&&'}
-open phrases use {EXPR, RETURNED, ASSIGNED, BINARY, OR-MORE, AND-MORE, COMPARE-MORE, SUM-MORE, PRODUCT-MORE, OPERAND}
 
 -- a word's place in a list is 0 exactly where it isn't there
 pub placed : (c : ℕ) (w : List ℕ) → place_in c w ≢ 0 → T (one_of c w)
@@ -144,12 +142,12 @@ module _ (s : List ℕ) (l : Limits) (b : Bool) (h : Here) (t : List ℕ) (g : S
 -- The binary levels
 
 abbrev pub MORE : ℕ → Bool → ℕ
-MORE zero b = OR-MORE b
-MORE (suc zero) b = OR-MORE b
-MORE (suc (suc zero)) b = AND-MORE b
-MORE (suc (suc (suc zero))) b = COMPARE-MORE b
-MORE (suc (suc (suc (suc zero)))) b = SUM-MORE b
-MORE (suc (suc (suc (suc (suc n))))) b = PRODUCT-MORE b
+MORE zero b = OR_MORE b
+MORE (suc zero) b = OR_MORE b
+MORE (suc (suc zero)) b = AND_MORE b
+MORE (suc (suc (suc zero))) b = COMPARE_MORE b
+MORE (suc (suc (suc (suc zero)))) b = SUM_MORE b
+MORE (suc (suc (suc (suc (suc n))))) b = PRODUCT_MORE b
 
 abbrev pub signs_of : ℕ → List ℕ
 signs_of zero = []

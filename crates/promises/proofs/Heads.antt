@@ -7,14 +7,14 @@ use mathlib.Core.Logic.{◌⊎◌, inl, inr, ◌≢◌}
 use Prim.Native.Nat.{ℕ, ◌+◌, ◌≤◌, ◌<◌}
 use lib.Dec.{T, eqb, ltb, ltb→lt, not_T, eqb→eq}
 use native.Mathlib.Omega.{arith}
-use Rattle.rows.specs.Kinds.{kinds}
+use Rattle.rows.specs.Kinds as kinds
 use Rattle.tokens.specs.declared.Refusal.{Refusal}
 use Rattle.rows.specs.declared.Row.{Row}
-use Rattle.grammar.specs.Words.{four_words, words}
+use Rattle.grammar.specs.Words.{open_brace, close_brace, 'in', four_words}
 use Rattle.grammar.specs.Grammar.{plain, is_head, is_else_if, opens_bracket, body, Scope, Symbol, phrase, one_of}
 use Rattle.grammar.specs.Limits.{zeros, Counts, after, inside, kept}
 use Rattle.grammar.specs.Table.{a, behind, closes, head, word, row, opens, rest_kinds, literal_row}
-use Rattle.grammar.specs.Kinds.{no_records, phrases}
+use Rattle.grammar.specs.Kinds.{no_records, NAME, BLOCK, FOUR, ELSE, ELSE_PART, ELSE_IF, ARMS, EXPR}
 use Rattle.grammar.proofs.Bools.{and_l, and_r, both, or_cases}
 use Rattle.grammar.proofs.Open.{Left}
 use Rattle.parser.specs.declared.Here.{Here}
@@ -34,8 +34,6 @@ use Rattle.promises.specs.Promises.{the, Anyhow, Partly, Headed, after_match, Te
 use Rattle.promises.proofs.Alternatives.{four_if_on, four_match_on, four_while_on, four_for_on, else_on, else_off, elses_block_on, elses_off, else_if_any, else_if_is}
 use Rattle.promises.proofs.Answered.{further, not_both, of_text, not_first, put_since, finished}
 use Rattle.promises.proofs.Partly.{partly, partly_of, stops_answer, partly_stops}
-open words use {open-brace, close-brace, 'in'}
-open phrases use {NAME, BLOCK, FOUR, ELSE, ELSE-PART, ELSE-IF, ARMS, EXPR}
 
 -- a phrase in it, by the answer of its reader
 module _ {f : Phrase} {s : List ℕ} {d d' : Counts} {ks : List Left} {h : Here} {t t' : List ℕ} {y : Tally} {v k : ℕ} {ss : List Symbol} {o : Scope} {n j : ℕ} {r : Read} (q : f.text ≡ s) (e : inside o d ≡ d') (u : Answers (the s d' n h t) j r t') where
@@ -163,10 +161,10 @@ pub four_past : (n : ℕ) {s : List ℕ} {h : Here} {r : Read} {m : Node} {z : H
 four_past n {s} {h} g o u q = let k = past_word four_words g tt o (under_done s h n u q).1.here in (k.0, k.1)
 
 module _ (l : Limits) {s : List ℕ} {h : Here} {t : List ℕ} (g : Stands s h) (e : word_of h ≡ 69) where
-  else_if_begins : Going (the s (counts l) ELSE-IF h t) (at (counts l) else_if_is ∷ []) h t bare 0 0
+  else_if_begins : Going (the s (counts l) ELSE_IF h t) (at (counts l) else_if_is ∷ []) h t bare 0 0
   else_if_begins = begins_any else_if_any g
 
-  else_if_full : (0 < l.heads → 0 < l.chain → ⊥) → Stopped (the s (counts l) ELSE-IF h t) (refusal_at 9 (start_of h) (end_of h)) t
+  else_if_full : (0 < l.heads → 0 < l.chain → ⊥) → Stopped (the s (counts l) ELSE_IF h t) (refusal_at 9 (start_of h) (end_of h)) t
   unfolding kept counts
   else_if_full n =
       let b : ℕ → Bool = λ x. ltb (used x) 32 in
@@ -177,11 +175,11 @@ module _ (l : Limits) {s : List ℕ} {h : Here} {t : List ℕ} (g : Stands s h) 
 
   -- with so many left, of which the chain may leave none
   module _ {n : ℕ} {r : Read} (u : r ≡ under s h n) where
-    pub else_if_deep : {x : Refusal} → (n ≡ 0 → 0 < l.heads → 0 < l.chain → ⊥) → r ≡ Refused x → Answers (the s (counts l) ELSE-IF h t) 1 r t
-    else_if_deep m q = let k = under_refused s h n (69 ∷ []) tt (is_word e) u q in stopped q (subst (λ (y : Refusal). Stopped (the s (counts l) ELSE-IF h t) y t) k.1 (else_if_full (m k.0)))
+    pub else_if_deep : {x : Refusal} → (n ≡ 0 → 0 < l.heads → 0 < l.chain → ⊥) → r ≡ Refused x → Answers (the s (counts l) ELSE_IF h t) 1 r t
+    else_if_deep m q = let k = under_refused s h n (69 ∷ []) tt (is_word e) u q in stopped q (subst (λ (y : Refusal). Stopped (the s (counts l) ELSE_IF h t) y t) k.1 (else_if_full (m k.0)))
 
   module _ {r : Read} (u : r ≡ under s h l.heads) where
-    pub else_if_on : {l' : Limits} {m : Node} {i : Here} → 0 < l.chain → l' ≡ chained l → r ≡ Done m i → Head (the s (counts l) ELSE-IF h t) l' (a (EXPR no_records) ∷ behind BLOCK ∷ behind ELSE ∷ row kinds.IF ∷ []) i t m.start 0
+    pub else_if_on : {l' : Limits} {m : Node} {i : Here} → 0 < l.chain → l' ≡ chained l → r ≡ Done m i → Head (the s (counts l) ELSE_IF h t) l' (a (EXPR no_records) ∷ behind BLOCK ∷ behind ELSE ∷ row kinds.IF ∷ []) i t m.start 0
     unfolding kept counts
     else_if_on {i = i} c p q =
         let k = under_done s h l.heads u q in
@@ -191,7 +189,7 @@ module _ (l : Limits) {s : List ℕ} {h : Here} {t : List ℕ} (g : Stands s h) 
           sign = word_of h;
           headed_so = counts_chained l k.0 c ∙ ap (λ (x : Limits). counts (headed x)) (sym p);
           body_so = counts_chain_body l c ∙ ap counts (sym p);
-          going = subst (λ (x : Node). Going (the s (counts l) ELSE-IF h t) (at (after is_else_if (counts l)) (a (EXPR no_records) ∷ behind BLOCK ∷ behind ELSE ∷ row kinds.IF ∷ []) ∷ []) i t (many x.start (end_of h) 0 (some (word_of h))) 0 4) k.1.node (takes else_if_begins tt (is_word e) (both (ltb (used l.heads) 32) (ltb (used l.chain) 32) (few_used l.heads k.0) (few_used l.chain c)) k.1.here);
+          going = subst (λ (x : Node). Going (the s (counts l) ELSE_IF h t) (at (after is_else_if (counts l)) (a (EXPR no_records) ∷ behind BLOCK ∷ behind ELSE ∷ row kinds.IF ∷ []) ∷ []) i t (many x.start (end_of h) 0 (some (word_of h))) 0 4) k.1.node (takes else_if_begins tt (is_word e) (both (ltb (used l.heads) 32) (ltb (used l.chain) 32) (few_used l.heads k.0) (few_used l.chain c)) k.1.here);
         }
 
 -- its expr and block, and its row
@@ -265,7 +263,7 @@ module _ {f : Phrase} {s : List ℕ} {l l' : Limits} {h : Here} {t : List ℕ} {
   match_expr_fails e₁ = head_expr_stops q (b.headed_so ∙ ap counts (sym p)) b.going u₁ e₁
 
   module _ {m₁ : Node} {h₁ : Here} (e₁ : r₁ ≡ Done m₁ h₁) {r₂ : Read} (u₂ : r₂ ≡ opening s h₁ 40 l.brackets) where
-    matches : Going f (at b.at_counts (opens open-brace ∷ behind ARMS ∷ closes close-brace ∷ row kinds.MATCH ∷ []) ∷ []) h₁ t₁ (many x m₁.end 1 (some b.sign)) 0 5
+    matches : Going f (at b.at_counts (opens open_brace ∷ behind ARMS ∷ closes close_brace ∷ row kinds.MATCH ∷ []) ∷ []) h₁ t₁ (many x m₁.end 1 (some b.sign)) 0 5
     matches = head_expr q (b.headed_so ∙ ap counts (sym p)) b.going u₁ e₁
 
     match_alike : Alike b.at_counts (headed l)
@@ -286,10 +284,10 @@ pub else_none : {f : Phrase} {d : Counts} {h : Here} {t : List ℕ} {x e w k : �
 else_none g j n v r t = finished (out (into_off else_off refl (λ m. n (the_word m)) g)) j refl refl v r t
 
 -- behind `else`
-pub else_word : (l : Limits) {f : Phrase} {d : Counts} {ss : List Symbol} {ks : List Left} {h h₁ : Here} {t : List ℕ} {x i c w v k : ℕ} → inside body d ≡ counts l → l.signs ≡ 32 → word_of h ≡ 63 → h₁ ≡ passed f.text h → Going f (at d (behind ELSE ∷ ss) ∷ ks) h t (many x i c (some w)) v k → Going f (at (counts l) (a ELSE-PART ∷ []) ∷ at d ss ∷ ks) h₁ t (many x (end_of h) c (some w)) v (k + 4)
+pub else_word : (l : Limits) {f : Phrase} {d : Counts} {ss : List Symbol} {ks : List Left} {h h₁ : Here} {t : List ℕ} {x i c w v k : ℕ} → inside body d ≡ counts l → l.signs ≡ 32 → word_of h ≡ 63 → h₁ ≡ passed f.text h → Going f (at d (behind ELSE ∷ ss) ∷ ks) h t (many x i c (some w)) v k → Going f (at (counts l) (a ELSE_PART ∷ []) ∷ at d ss ∷ ks) h₁ t (many x (end_of h) c (some w)) v (k + 4)
 unfolding kept
 else_word l {f} {d} {ss} {ks} {h} {h₁} {t} {x} {i} {c} {w} {v} {k} b z e p g =
-    subst (λ (y : Counts). Going f (at y (a ELSE-PART ∷ []) ∷ at d ss ∷ ks) h₁ t (many x (end_of h) c (some w)) v (k + 4)) (ap (after plain) b ∙ counts_same l z) (takes (into_on else_on refl (is_word e) g) tt (is_word e) tt p)
+    subst (λ (y : Counts). Going f (at y (a ELSE_PART ∷ []) ∷ at d ss ∷ ks) h₁ t (many x (end_of h) c (some w)) v (k + 4)) (ap (after plain) b ∙ counts_same l z) (takes (into_on else_on refl (is_word e) g) tt (is_word e) tt p)
 
 -- the block there
 pub else_fails : (l : Limits) {s : List ℕ} {h : Here} {t : List ℕ} {start since : ℕ} {r : Read} → word_of h ≢ 69 → word_of h ≢ 40 → r ≡ unused h → Elsed s h t l start since r t

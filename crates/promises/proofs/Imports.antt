@@ -8,14 +8,14 @@ use Prim.Native.Nat.{ℕ, ◌+◌, ◌≤◌, ◌<◌}
 use lib.Dec.{T, eqb, eqb→eq, eqb_refl}
 use lib.ListN.{length}
 use native.Mathlib.Omega.{arith}
-use Rattle.rows.specs.Kinds.{kinds}
+use Rattle.rows.specs.Kinds as kinds
 use Rattle.tokens.specs.declared.Refusal.{Refusal}
 use Rattle.rows.specs.declared.Row.{Row}
-use Rattle.grammar.specs.Words.{path_items, words}
+use Rattle.grammar.specs.Words.{path_items, open_brace, close_brace, semicolon}
 use Rattle.grammar.specs.Grammar.{plain, opens_bracket, one_of}
 use Rattle.grammar.specs.Limits.{Counts, after, inside, kept}
 use Rattle.grammar.specs.Table.{a, row, closes, word}
-use Rattle.grammar.specs.Kinds.{phrases}
+use Rattle.grammar.specs.Kinds.{IMPORT, IMPORTED, IMPORTPATH, IMPORTPATH_REST, IMPORTPATH_DOT, IMPORTPATHS, IMPORTPATHS_MORE, PATH_ITEM}
 use Rattle.grammar.proofs.Bools.{or_cases}
 use Rattle.grammar.proofs.Summary.{or_word}
 use Rattle.parser.specs.declared.Here.{Here}
@@ -35,8 +35,6 @@ use Rattle.parser.proofs.Sides.{Around, encloses, encloses_word, encloses_out, e
 use Rattle.promises.specs.Promises.{the, Anyhow, wrote, Closed, Grouped}
 use Rattle.promises.proofs.Answered.{put_behind}
 use Rattle.promises.proofs.Alternatives.{import_any, imported_any, importpath_any, importpath_rest_on, importpath_rest_off, importpath_dot_item_on, importpath_dot_group_on, importpath_dot_off, importpaths_any, importpaths_more_on, importpaths_more_off}
-open words use {open-brace, close-brace, semicolon}
-open phrases use {IMPORT, IMPORTED, IMPORTPATH, IMPORTPATH-REST, IMPORTPATH-DOT, IMPORTPATHS, IMPORTPATHS-MORE, PATH-ITEM}
 
 -- an answer at limits that were computed
 pub limited : {s : List ℕ} {x y : Limits} {n k : ℕ} {h : Here} {t t' : List ℕ} {r : Read} → x ≡ y → Answers (the s (counts x) n h t) k r t' → Answers (the s (counts y) n h t) k r t'
@@ -47,13 +45,13 @@ pub record Begun (f : Phrase) (l : Limits) (start end children : ℕ) (h : Here)
   pub at_counts : Counts
   pub alike : Alike at_counts l
   pub sign : Option ℕ
-  pub going : Going f (at at_counts (a IMPORTPATH-REST ∷ []) ∷ at f.counts (row kinds.IMPORT-PATH ∷ []) ∷ []) h t (many start end children sign) 0 3
+  pub going : Going f (at at_counts (a IMPORTPATH_REST ∷ []) ∷ at f.counts (row kinds.IMPORT_PATH ∷ []) ∷ []) h t (many start end children sign) 0 3
 
 module _ (s : List ℕ) (i : Here) (t₀ : List ℕ) (l : Limits) where
   abbrev Path : Phrase
   Path = the s (counts l) IMPORTPATH i t₀
 
-  module _ (g : Stands s i) {r : Read} {t : List ℕ} (u : Anyhow s PATH-ITEM i t₀ 3 r t) where
+  module _ (g : Stands s i) {r : Read} {t : List ℕ} (u : Anyhow s PATH_ITEM i t₀ 3 r t) where
     pub path_begins : {m : Node} {h : Here} → r ≡ Done m h → Begun Path l m.start m.end 1 h t
     unfolding inside
     path_begins e = record { at_counts = counts l; alike = alike_counts l; sign = none; going = as_many (alone (reads_one (begins_any importpath_any g) refl refl (whole_of (u (counts l)) e))) }
@@ -65,15 +63,15 @@ module _ (s : List ℕ) (i : Here) (t₀ : List ℕ) (l : Limits) where
   module _ {x e c : ℕ} {h : Here} {t : List ℕ} (b : Begun Path l x e c h t) where
     module _ {h' : Here} (m : word_of h ≡ 49) (p : h' ≡ passed s h) where
       -- behind the `.`
-      pub path_behind : Going Path (at (after plain b.at_counts) (a IMPORTPATH-DOT ∷ []) ∷ at (counts l) (row kinds.IMPORT-PATH ∷ []) ∷ []) h' t (many x (end_of h) c (or_word b.sign (word_of h))) 0 3
+      pub path_behind : Going Path (at (after plain b.at_counts) (a IMPORTPATH_DOT ∷ []) ∷ at (counts l) (row kinds.IMPORT_PATH ∷ []) ∷ []) h' t (many x (end_of h) c (or_word b.sign (word_of h))) 0 3
       unfolding inside kept
       path_behind = fewer 3 (omega arith) (last (takes (into_on importpath_rest_on refl (is_word m) b.going) tt (is_word m) tt p))
 
-      pub path_more : {r : Read} {t' : List ℕ} {n : Node} {z : Here} → T (one_of (word_of h') path_items) → Anyhow s PATH-ITEM h' t 3 r t' → r ≡ Done n z → Begun Path l x n.end (c + 1) z t'
+      pub path_more : {r : Read} {t' : List ℕ} {n : Node} {z : Here} → T (one_of (word_of h') path_items) → Anyhow s PATH_ITEM h' t 3 r t' → r ≡ Done n z → Begun Path l x n.end (c + 1) z t'
       unfolding inside
       path_more k u q = record { at_counts = after plain b.at_counts; alike = alike_plain l b.alike; sign = or_word b.sign (word_of h); going = fewer 3 (omega arith) (last (reads_one (into_on importpath_dot_item_on refl k path_behind) refl refl (whole_of (u (after plain b.at_counts)) q))) }
 
-      pub path_fails : {r : Read} {t' : List ℕ} {z : Refusal} → T (one_of (word_of h') path_items) → Anyhow s PATH-ITEM h' t 3 r t' → r ≡ Refused z → Answers Path 2 r t'
+      pub path_fails : {r : Read} {t' : List ℕ} {z : Refusal} → T (one_of (word_of h') path_items) → Anyhow s PATH_ITEM h' t 3 r t' → r ≡ Refused z → Answers Path 2 r t'
       unfolding inside
       path_fails k u q = relays (into_on importpath_dot_item_on refl k path_behind) refl (u (after plain b.at_counts)) q
 
@@ -94,9 +92,9 @@ module _ (s : List ℕ) (i : Here) (t₀ : List ℕ) (l : Limits) where
 
       -- neither an item nor a group
       pub path_neither : {r : Read} → word_of h' ≢ 40 → (T (one_of (word_of h') path_items) → ⊥) → r ≡ unused h' → Answers Path 2 r t
-      path_neither n k q = stopped q (refuses_off importpath_dot_off (λ z. elim (or_cases (eqb (word_of h') open-brace) (one_of (word_of h') path_items) z) [ inl y ↦ n (eqb→eq (word_of h') open-brace y) | inr y ↦ k y ]) path_behind)
+      path_neither n k q = stopped q (refuses_off importpath_dot_off (λ z. elim (or_cases (eqb (word_of h') open_brace) (one_of (word_of h') path_items) z) [ inl y ↦ n (eqb→eq (word_of h') open_brace y) | inr y ↦ k y ]) path_behind)
 
-    pub path_ends : {q : Row} {r : Read} {t' : List ℕ} → word_of h ≢ 49 → q ≡ plain_row kinds.IMPORT-PATH x e c → (r ≡ Done (node_of q) (later h)) × (t' ≡ put_over t h q i.rows) → Answers Path 2 r t'
+    pub path_ends : {q : Row} {r : Read} {t' : List ℕ} → word_of h ≢ 49 → q ≡ plain_row kinds.IMPORT_PATH x e c → (r ≡ Done (node_of q) (later h)) × (t' ≡ put_over t h q i.rows) → Answers Path 2 r t'
     unfolding inside
     path_ends n o p = done p.0 (ends (out (writes (out (out (into_off importpath_rest_off refl (λ z. n (the_word z)) b.going))) refl refl o refl p.1)) refl refl refl)
 
@@ -120,10 +118,10 @@ closed_kept {s} {h} {t} {q = q} {since} u = by_closed u (λ k e p. ap length p �
 pub record Grouping (f : Phrase) (d : Counts) (start children : ℕ) (h : Here) (t : List ℕ) : Type 0 where
   pub end : ℕ
   pub sign : Option ℕ
-  pub going : Going f (at (after opens_bracket d) (a IMPORTPATHS ∷ []) ∷ at (after opens_bracket d) (closes close-brace ∷ []) ∷ at d [] ∷ at f.counts (row kinds.IMPORT-PATH ∷ []) ∷ []) h t (many start end children sign) 0 3
+  pub going : Going f (at (after opens_bracket d) (a IMPORTPATHS ∷ []) ∷ at (after opens_bracket d) (closes close_brace ∷ []) ∷ at d [] ∷ at f.counts (row kinds.IMPORT_PATH ∷ []) ∷ []) h t (many start end children sign) 0 3
 
 module _ {f : Phrase} {d : Counts} (l : Limits) (k : Alike d l) where
-  module _ {x e m : ℕ} {w : Option ℕ} {h : Here} {t : List ℕ} {r : Read} (b : Going f (at d (a IMPORTPATH-DOT ∷ []) ∷ at f.counts (row kinds.IMPORT-PATH ∷ []) ∷ []) h t (many x e m w) 0 3) (o : word_of h ≡ 40) (q : r ≡ opening f.text h 40 l.brackets) where
+  module _ {x e m : ℕ} {w : Option ℕ} {h : Here} {t : List ℕ} {r : Read} (b : Going f (at d (a IMPORTPATH_DOT ∷ []) ∷ at f.counts (row kinds.IMPORT_PATH ∷ []) ∷ []) h t (many x e m w) 0 3) (o : word_of h ≡ 40) (q : r ≡ opening f.text h 40 l.brackets) where
     pub group_opens : {y : Node} {z : Here} → r ≡ Done y z → Grouping f d x m z t
     unfolding inside
     group_opens {y} {z} p = record { end = y.end; sign = or_word w 40; going = fewer 3 (omega arith) (alone (opens_on 40 l (into_on importpath_dot_group_on refl (is_word o) b) tt k q p)) }
@@ -139,19 +137,19 @@ module _ {f : Phrase} {d : Counts} (l : Limits) (k : after opens_bracket d ≡ c
     group_refused p = relays (into_off importpaths_any refl (λ z. z) b.going) k u p
 
     module _ {y : Node} {z : Here} (p : r ≡ Done y z) where
-      group_read : Going f (at (after opens_bracket d) (a IMPORTPATHS-MORE ∷ []) ∷ at (after opens_bracket d) (closes close-brace ∷ []) ∷ at d [] ∷ at f.counts (row kinds.IMPORT-PATH ∷ []) ∷ []) z t' (many x y.end (m + 1) b.sign) 0 5
+      group_read : Going f (at (after opens_bracket d) (a IMPORTPATHS_MORE ∷ []) ∷ at (after opens_bracket d) (closes close_brace ∷ []) ∷ at d [] ∷ at f.counts (row kinds.IMPORT_PATH ∷ []) ∷ []) z t' (many x y.end (m + 1) b.sign) 0 5
       unfolding inside
       group_read = last (reads_one (into_off importpaths_any refl (λ z. z) b.going) refl k (whole_of u p))
 
       pub group_more : {z' : Here} → word_of z ≡ 48 → z' ≡ passed f.text z → Grouping f d x (m + 1) z' t'
       unfolding inside kept
-      group_more {z'} v q = record { end = end_of z; sign = or_word b.sign (word_of z); going = fewer 3 (omega arith) (subst (λ (j : Counts). Going f (at j (a IMPORTPATHS ∷ []) ∷ at (after opens_bracket d) (closes close-brace ∷ []) ∷ at d [] ∷ at f.counts (row kinds.IMPORT-PATH ∷ []) ∷ []) z' t' (many x (end_of z) (m + 1) (or_word b.sign (word_of z))) 0 9) (counts_inner d) (last (takes (into_on importpaths_more_on refl (is_word v) group_read) tt (is_word v) tt q))) }
+      group_more {z'} v q = record { end = end_of z; sign = or_word b.sign (word_of z); going = fewer 3 (omega arith) (subst (λ (j : Counts). Going f (at j (a IMPORTPATHS ∷ []) ∷ at (after opens_bracket d) (closes close_brace ∷ []) ∷ at d [] ∷ at f.counts (row kinds.IMPORT_PATH ∷ []) ∷ []) z' t' (many x (end_of z) (m + 1) (or_word b.sign (word_of z))) 0 9) (counts_inner d) (last (takes (into_on importpaths_more_on refl (is_word v) group_read) tt (is_word v) tt q))) }
 
-      pub group_ends : {q : Row} {r' : Read} {t'' : List ℕ} → word_of z ≢ 48 → q ≡ plain_row kinds.IMPORT-PATH x (end_of z) (m + 1) → Closed f.text z t' 41 q f.from.rows r' t'' → Answers f 2 r' t''
+      pub group_ends : {q : Row} {r' : Read} {t'' : List ℕ} → word_of z ≢ 48 → q ≡ plain_row kinds.IMPORT_PATH x (end_of z) (m + 1) → Closed f.text z t' 41 q f.from.rows r' t'' → Answers f 2 r' t''
       unfolding inside kept
       group_ends {r' = r'} {t'' = t''} v j q = by_closed q (λ e g h. done g (ends (out (writes (fewer 3 (omega arith) (out (out (takes ended tt (is_word e) tt refl)))) refl refl j refl h)) refl refl refl)) (λ n g. unwritten g (stopped g.0 (refuses_word ended (λ j. n (the_word j)))))
         where
-          ended : Going f (at (after opens_bracket d) (closes close-brace ∷ []) ∷ at d [] ∷ at f.counts (row kinds.IMPORT-PATH ∷ []) ∷ []) z t' (many x y.end (m + 1) b.sign) 0 5
+          ended : Going f (at (after opens_bracket d) (closes close_brace ∷ []) ∷ at d [] ∷ at f.counts (row kinds.IMPORT_PATH ∷ []) ∷ []) z t' (many x y.end (m + 1) b.sign) 0 5
           ended = out (out (into_off importpaths_more_off refl (λ j. v (the_word j)) group_read))
 
           unwritten : {q : Read} → (r' ≡ q) × (t'' ≡ t') → Answers f 2 r' t' → Answers f 2 r' t''
@@ -191,8 +189,8 @@ group_starts s h n q p g f =
     (record { stands = k.0; few = omega (arith, f, e); ahead = omega arith }, k.1)
 
 -- A group's promise, of a phrase of its source.
-pub grouped_of : {s : List ℕ} {h : Here} {t : List ℕ} {l : Limits} {x m since : ℕ} {r : Read} {t' : List ℕ} → ((d₀ : Counts) (n : ℕ) (i : Here) (t₀ : List ℕ) (d : Counts) (e : ℕ) (w : Option ℕ) → i.rows ≡ since → Alike d l → Going (the s d₀ n i t₀) (at d (a IMPORTPATH-DOT ∷ []) ∷ at d₀ (row kinds.IMPORT-PATH ∷ []) ∷ []) h t (many x e m w) 0 3 → Answers (the s d₀ n i t₀) 2 r t') → Grouped s h t l x m since r t'
-grouped_of {h = h} {t = t} {l = l} {x = x} {m = m} {since = since} {r = r} {t' = t'} k f d e w q = subst (λ (y : List ℕ). f.from.rows ≡ since → Alike d l → Going (the y f.counts f.kind f.from f.table) (at d (a IMPORTPATH-DOT ∷ []) ∷ at f.counts (row kinds.IMPORT-PATH ∷ []) ∷ []) h t (many x e m w) 0 3 → Answers (the y f.counts f.kind f.from f.table) 2 r t') (sym q) (k f.counts f.kind f.from f.table d e w)
+pub grouped_of : {s : List ℕ} {h : Here} {t : List ℕ} {l : Limits} {x m since : ℕ} {r : Read} {t' : List ℕ} → ((d₀ : Counts) (n : ℕ) (i : Here) (t₀ : List ℕ) (d : Counts) (e : ℕ) (w : Option ℕ) → i.rows ≡ since → Alike d l → Going (the s d₀ n i t₀) (at d (a IMPORTPATH_DOT ∷ []) ∷ at d₀ (row kinds.IMPORT_PATH ∷ []) ∷ []) h t (many x e m w) 0 3 → Answers (the s d₀ n i t₀) 2 r t') → Grouped s h t l x m since r t'
+grouped_of {h = h} {t = t} {l = l} {x = x} {m = m} {since = since} {r = r} {t' = t'} k f d e w q = subst (λ (y : List ℕ). f.from.rows ≡ since → Alike d l → Going (the y f.counts f.kind f.from f.table) (at d (a IMPORTPATH_DOT ∷ []) ∷ at f.counts (row kinds.IMPORT_PATH ∷ []) ∷ []) h t (many x e m w) 0 3 → Answers (the y f.counts f.kind f.from f.table) 2 r t') (sym q) (k f.counts f.kind f.from f.table d e w)
 
 -- From where the loop over its paths began.
 abbrev pub Gathers : List ℕ → Limits → ℕ → ℕ → Here → List ℕ → ℕ → Here → List ℕ → Type 0

@@ -8,7 +8,7 @@ use borrow.Author.Tests.{eq-eqb, ne_eqb}
 use Rattle.tokens.specs.declared.Refusal.{Refusal}
 use Rattle.rows.specs.declared.Row.{Row}
 use Rattle.rows.specs.Rows.{put_row}
-use Rattle.grammar.specs.Words.{words}
+use Rattle.grammar.specs.Words.{open_brace, comma}
 use Rattle.parser.specs.declared.Arm.{Arm}
 use Rattle.parser.specs.declared.Here.{Here}
 use Rattle.parser.specs.declared.Node.{Node}
@@ -20,7 +20,6 @@ use Rattle.parser.proofs.Standing.{lexed}
 use Rattle.parser.proofs.Steps.{took_done, expected_done, expected_refused}
 use Rattle.promises.specs.Firsts.{arm_end}
 use Rattle.promises.specs.Promises.{wrote, Closed}
-open words use {open-brace, comma}
 
 -- the row that was written is this one
 pub row_is : (h : Here) (t : List ℕ) (since : ℕ) {r : Read} {t' : List ℕ} {x q : Row} → x ≡ q → (r ≡ Done (node_of x) (later h)) × (t' ≡ put_over t h x since) → (r ≡ Done (node_of q) (later h)) × (t' ≡ put_over t h q since)
@@ -60,8 +59,8 @@ module _ (s : List ℕ) (h : Here) (begin : ℕ) {r : Arm} where
   pub arm_comma : {z : Here} → word_of h ≡ comma → z ≡ passed s h → r ≡ Arm.Followed z → r ≡ arm_end s h begin
   arm_comma e p k = rw (eq-eqb _ _ e) (k ∙ ap Arm.Followed p)
 
-  pub arm_block : word_of h ≢ comma → begin ≡ open-brace → r ≡ Arm.Followed h → r ≡ arm_end s h begin
+  pub arm_block : word_of h ≢ comma → begin ≡ open_brace → r ≡ Arm.Followed h → r ≡ arm_end s h begin
   arm_block n e k = rw (ne_eqb _ _ n, eq-eqb _ _ e) k
 
-  pub arm_last : word_of h ≢ comma → begin ≢ open-brace → r ≡ Arm.Last h → r ≡ arm_end s h begin
+  pub arm_last : word_of h ≢ comma → begin ≢ open_brace → r ≡ Arm.Last h → r ≡ arm_end s h begin
   arm_last n e k = rw (ne_eqb _ _ n, ne_eqb _ _ e) k

@@ -9,11 +9,11 @@ use lib.Dec.{T, eqb, ltb, eqb→eq, ltb→lt, lt→ltb}
 use native.Mathlib.Decide.{dec_le}
 use native.Mathlib.Omega.{arith}
 use native.Mathlib.Nat.{add-zero}
-use Rattle.rows.specs.Kinds.{kinds}
+use Rattle.rows.specs.Kinds as kinds
 use Rattle.tokens.specs.declared.Refusal.{Refusal}
 use Rattle.grammar.specs.Grammar.{plain, one_of}
 use Rattle.grammar.specs.Limits.{Counts, after}
-use Rattle.grammar.specs.Kinds.{phrases}
+use Rattle.grammar.specs.Kinds.{OPERAND}
 use Rattle.parser.specs.declared.Here.{Here}
 use Rattle.parser.specs.declared.Limits.{Limits}
 use Rattle.parser.specs.declared.Node.{Node}
@@ -30,7 +30,6 @@ use Rattle.promises.specs.Firsts.{level_of, detail_row, joined_read, joined_tabl
 use Rattle.promises.specs.Promises.{the, LEVEL}
 use Rattle.promises.proofs.Answered.{not_both}
 use Rattle.promises.proofs.Exprs.{MORE, signs_of, level_of_lem, on_level, Joins, binop_refused, binop_begins, binop_ends, binop_behind, binop_fails, binop_compared, binop_less, binop_joined}
-open phrases use {OPERAND}
 
 module _ (s : List ℕ) (b : Bool) (p : Limits) (d : Counts) (i : Here) (t₀ : List ℕ) (g : Stands s i) (q : after plain d ≡ counts p) where
   -- in the chain of level k

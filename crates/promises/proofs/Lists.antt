@@ -9,11 +9,11 @@ use lib.Dec.{T, eqb, eqb→eq, eqb_refl}
 use lib.ListN.{length}
 use native.Mathlib.Omega.{arith}
 use Rattle.tokens.specs.declared.Refusal.{Refusal}
-use Rattle.grammar.specs.Words.{names, words}
+use Rattle.grammar.specs.Words.{comma, names}
 use Rattle.grammar.specs.Grammar.{plain, opens_bracket, closes_bracket, Symbol, one_of}
 use Rattle.grammar.specs.Limits.{Counts, after, inside, kept}
 use Rattle.grammar.specs.Table.{word, a, closes, rest_kinds}
-use Rattle.grammar.specs.Kinds.{records, phrases}
+use Rattle.grammar.specs.Kinds.{records, TYPED_NAMES, TYPED_NAMES_MORE, TYPED_NAME, TYPES, TYPES_MORE, TYPE, EXPRS, EXPRS_MORE, EXPR, FIELDS, FIELDS_MORE, FIELD, NAMES, NAMES_MORE, NAME}
 use Rattle.grammar.proofs.Open.{Left}
 use Rattle.grammar.proofs.Summary.{or_word}
 use Rattle.parser.specs.declared.Here.{Here}
@@ -33,8 +33,6 @@ use Rattle.promises.specs.Promises.{the, Partly, listed, Listed}
 use Rattle.promises.proofs.Alternatives.{typed_names_on, typed_names_off, typed_names_more_on, typed_names_more_off, types_on, types_off, types_more_on, types_more_off, exprs_on, exprs_off, exprs_more_on, exprs_more_off, fields_on, fields_off, fields_more_on, fields_more_off, names_on, names_off, names_more_on, names_more_off}
 use Rattle.promises.proofs.Partly.{partly, partly_stops}
 use Rattle.promises.proofs.Answered.{further, of_text, partly_as}
-open words use {comma}
-open phrases use {TYPED-NAMES, TYPED-NAMES-MORE, TYPED-NAME, TYPES, TYPES-MORE, TYPE, EXPRS, EXPRS-MORE, EXPR, FIELDS, FIELDS-MORE, FIELD, NAMES, NAMES-MORE, NAME}
 
 -- a bracket that closes is there, or not
 closing_either : (s : List ℕ) (h : Here) (w b c : ℕ) → T (lexed (w ∷ [])) → ((word_of h ≡ w) × (closing s h w b c ≡ Done (list_node h b c) (passed s h))) ⊎ ((word_of h ≢ w) × (closing s h w b c ≡ unused h))
@@ -74,19 +72,19 @@ pub record Lists (ITEM LIST MORE : ℕ) (firsts : List ℕ) : Type 0 where
   pub more_rest : one_of MORE rest_kinds ≡ true
   pub item_whole : one_of ITEM rest_kinds ≡ false
 
-pub typed_names_list : Lists TYPED-NAME TYPED-NAMES TYPED-NAMES-MORE names
+pub typed_names_list : Lists TYPED_NAME TYPED_NAMES TYPED_NAMES_MORE names
 typed_names_list = record { on = typed_names_on; off = typed_names_off; more_on = typed_names_more_on; more_off = typed_names_more_off; list_rest = refl; more_rest = refl; item_whole = refl }
 
-pub types_list : Lists TYPE TYPES TYPES-MORE type_firsts
+pub types_list : Lists TYPE TYPES TYPES_MORE type_firsts
 types_list = record { on = types_on; off = types_off; more_on = types_more_on; more_off = types_more_off; list_rest = refl; more_rest = refl; item_whole = refl }
 
-pub exprs_list : Lists (EXPR records) EXPRS EXPRS-MORE expr_firsts
+pub exprs_list : Lists (EXPR records) EXPRS EXPRS_MORE expr_firsts
 exprs_list = record { on = exprs_on; off = exprs_off; more_on = exprs_more_on; more_off = exprs_more_off; list_rest = refl; more_rest = refl; item_whole = refl }
 
-pub fields_list : Lists FIELD FIELDS FIELDS-MORE names
+pub fields_list : Lists FIELD FIELDS FIELDS_MORE names
 fields_list = record { on = fields_on; off = fields_off; more_on = fields_more_on; more_off = fields_more_off; list_rest = refl; more_rest = refl; item_whole = refl }
 
-pub names_list : Lists NAME NAMES NAMES-MORE names
+pub names_list : Lists NAME NAMES NAMES_MORE names
 names_list = record { on = names_on; off = names_off; more_on = names_more_on; more_off = names_more_off; list_rest = refl; more_rest = refl; item_whole = refl }
 
 -- A phrase with n rows so far that began at b, x being its first word if that word was there before the list.

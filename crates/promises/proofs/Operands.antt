@@ -8,14 +8,14 @@ use Prim.Native.Nat.{ℕ, zero, suc, ◌+◌, ◌≤◌, ◌<◌}
 use lib.Dec.{T, eqb, eqb→eq, eqb_refl}
 use lib.ListN.{length}
 use native.Mathlib.Omega.{arith}
-use Rattle.rows.specs.Kinds.{kinds}
+use Rattle.rows.specs.Kinds as kinds
 use Rattle.tokens.specs.declared.Refusal.{Refusal}
 use Rattle.rows.specs.declared.Row.{Row}
-use Rattle.grammar.specs.Words.{names, path_items, literals, four_words, words}
+use Rattle.grammar.specs.Words.{names, path_items, literals, four_words, close_brace, open_brace, comma}
 use Rattle.grammar.specs.Grammar.{plain, same, opens_bracket, closes_bracket, Symbol, one_of}
 use Rattle.grammar.specs.Limits.{Counts, zeros, after, inside, kept}
 use Rattle.grammar.specs.Table.{a, word, row, part, opens, closes, rest_kinds}
-use Rattle.grammar.specs.Kinds.{phrases}
+use Rattle.grammar.specs.Kinds.{EXPR, EXPRS, OPERAND, POSTFIX, AFTER_PATH, NAME, PATH, PARENS, BRACES, BRACES_INSIDE, BLOCK, FIELD, FIELD_NAME, FIELDS, FIELDS_MORE, STATEMENTS}
 use Rattle.grammar.specs.Refusals.{Why, said}
 use Rattle.grammar.specs.Refusals as refusals
 use Rattle.grammar.specs.Readings.{reads_end, reads_phrase}
@@ -46,8 +46,6 @@ use Rattle.promises.proofs.Blocks.{leaves_row}
 use Rattle.promises.proofs.Imports.{whole_fewer}
 use Rattle.promises.proofs.Lists.{Lists, fields_list, Listing, Loops, reads_item, item_stops, no_item, no_comma}
 use Rattle.promises.proofs.Partly.{partly_of, partly, partly_stops, stops_partly, relays_partly}
-open words use {close-brace, open-brace, comma}
-open phrases use {EXPR, EXPRS, OPERAND, POSTFIX, AFTER-PATH, NAME, PATH, PARENS, BRACES, BRACES-INSIDE, BLOCK, FIELD, FIELD-NAME, FIELDS, FIELDS-MORE, STATEMENTS}
 
 -- No place is far from a source.
 pub place_near : {s : List ℕ} {h : Here} → Stands s h → next_of h ≤ 65536
@@ -100,16 +98,16 @@ module _ (s : List ℕ) (l : Limits) (b : Bool) (h : Here) (t : List ℕ) (g : S
     path_stops e = relays_partly (begins_on (operand_path_on b) g o) refl (u (counts l)) e
 
     module _ {m : Node} {z : Here} (e : r ≡ Done m z) where
-      behind_path : Going Operand (at (counts l) (a (AFTER-PATH b) ∷ []) ∷ []) z t' (lone m.kind m.start m.end) 0 2
+      behind_path : Going Operand (at (counts l) (a (AFTER_PATH b) ∷ []) ∷ []) z t' (lone m.kind m.start m.end) 0 2
       unfolding inside
       behind_path = reads_one (begins_on (operand_path_on b) g o) refl refl (whole_of (u (counts l)) e)
 
-      pub path_alone : {q : Read} → undotted r → (T b → word_of z ≢ open-brace) → q ≡ Done m z → Atom s h t l b q t'
+      pub path_alone : {q : Read} → undotted r → (T b → word_of z ≢ open_brace) → q ≡ Done m z → Atom s h t l b q t'
       path_alone n k i = partly i (record { at_counts = counts l; alike = alike_counts l; going = inr (fewer 1 (omega arith) behind_path, subst undotted e n, k) })
 
 -- A path and a record behind it, where one may stand.
-module _ (s : List ℕ) (l : Limits) (h : Here) (t : List ℕ) (g : Stands s h) {r : Read} {t' : List ℕ} (o : T (one_of (word_of h) path_items)) (u : Anyhow s PATH h t 2 r t') {m : Node} {z : Here} (e : r ≡ Done m z) (w : word_of z ≡ open-brace) {q : Read} (p : q ≡ opening s z 40 l.brackets) where
-  before_record : Going (Operand s l true h t g) (at (counts l) (opens open-brace ∷ a FIELDS ∷ closes close-brace ∷ part ∷ row kinds.RECORD ∷ a (POSTFIX true) ∷ []) ∷ at (counts l) [] ∷ []) z t' (lone m.kind m.start m.end) 0 2
+module _ (s : List ℕ) (l : Limits) (h : Here) (t : List ℕ) (g : Stands s h) {r : Read} {t' : List ℕ} (o : T (one_of (word_of h) path_items)) (u : Anyhow s PATH h t 2 r t') {m : Node} {z : Here} (e : r ≡ Done m z) (w : word_of z ≡ open_brace) {q : Read} (p : q ≡ opening s z 40 l.brackets) where
+  before_record : Going (Operand s l true h t g) (at (counts l) (opens open_brace ∷ a FIELDS ∷ closes close_brace ∷ part ∷ row kinds.RECORD ∷ a (POSTFIX true) ∷ []) ∷ at (counts l) [] ∷ []) z t' (lone m.kind m.start m.end) 0 2
   unfolding inside
   before_record = into_on after_path_record_on (rest_after_path true) (is_word w) (behind_path s l true h t g o u e)
 
@@ -168,7 +166,7 @@ module _ {f : Phrase} {l : Limits} {b : Bool} {m : Node} {h : Here} {t : List �
       two : T (one_of (word_of h) (51 ∷ 42 ∷ [])) → ⊥
       two k = o (within (word_of h) (51 ∷ 42 ∷ []) postfix_signs tt k)
 
-      go : (b : Bool) → Going f (at u.at_counts (a (AFTER-PATH b) ∷ []) ∷ []) h t (lone m.kind m.start m.end) 0 1 → (T b → word_of h ≢ open-brace) → Going f [] h t (lone m.kind m.start m.end) 0 1
+      go : (b : Bool) → Going f (at u.at_counts (a (AFTER_PATH b) ∷ []) ∷ []) h t (lone m.kind m.start m.end) 0 1 → (T b → word_of h ≢ open_brace) → Going f [] h t (lone m.kind m.start m.end) 0 1
       go true g n = out (out (into_off after_path_off_records refl (λ k. elim (of_two (word_of h) (51 ∷ 42 ∷ []) (40 ∷ []) k) [ inl q ↦ two q | inr q ↦ n tt (the_word q) ]) g))
       go false g n = out (out (into_off after_path_off_none refl two g))
 
@@ -264,7 +262,7 @@ module _ (s : List ℕ) (l : Limits) (h : Here) (t : List ℕ) (g : Stands s h) 
         parens_read d v = let w = expected_done s z 43 c d in done v (whole_fewer 1 (omega arith) (encloses_ends (encloses_out (encloses_word (encloses in_parens refl inner (whole_of u e)) tt (is_word w.0) tt w.1.here))))
 
 -- `name : expr`
-module _ (s : List ℕ) (l : Limits) (h : Here) (t : List ℕ) (g : Stands s h) {r : Read} {t₁ : List ℕ} (u : Anyhow s FIELD-NAME h t 3 r t₁) where
+module _ (s : List ℕ) (l : Limits) (h : Here) (t : List ℕ) (g : Stands s h) {r : Read} {t₁ : List ℕ} (u : Anyhow s FIELD_NAME h t 3 r t₁) where
   abbrev Field : Phrase
   Field = the s (counts l) FIELD h t
 
@@ -324,7 +322,7 @@ module _ (s : List ℕ) (l : Limits) (h : Here) (t : List ℕ) (g : Stands s h) 
   braces_shut i = stopped i (opens_off 40 l (begins_any braces_any g) tt (alike_counts l) p i)
 
   module _ {x : Node} {y : Here} (i : r ≡ Done x y) {l' : Limits} (j : l' ≡ opened l) where
-    in_braces : Going Braces (at (bracketed l) (a BRACES-INSIDE ∷ []) ∷ []) y t (many x.start x.end 0 (some 40)) 0 4
+    in_braces : Going Braces (at (bracketed l) (a BRACES_INSIDE ∷ []) ∷ []) y t (many x.start x.end 0 (some 40)) 0 4
     in_braces = opens_on 40 l (begins_any braces_any g) tt (alike_counts l) p i
 
     inner_braces : (bracketed l) ≡ counts l'
@@ -391,9 +389,9 @@ refused_onward i e = (subst (onward i) (sym e) tt, subst few (sym e) tt)
 abbrev record_row : ℕ → ℕ → ℕ → ℕ → Row
 record_row a e c v = record { kind = kinds.RECORD; start = a; end = e; children = c; value = v; detail = 0 }
 
-fields_end : {f : Phrase} {since : ℕ} {d : Counts} {ss : List Symbol} {ks : List Left} {h : Here} {t : List ℕ} {b e c k : ℕ} {w : Option ℕ} {q : Row} {r : Read} {t' : List ℕ} (p : ℕ) → p ≤ 1 → Going f (at d (closes close-brace ∷ fields_tail p ss) ∷ ks) h t (many b e c w) 0 k → q ≡ record_row b (end_of h) c p → f.from.rows ≡ since → Closed f.text h t close-brace q since r t' → Partly f r t' (λ m h'. Going f (at (after closes_bracket d) ss ∷ ks) h' t' (lone m.kind m.start m.end) 0 k)
+fields_end : {f : Phrase} {since : ℕ} {d : Counts} {ss : List Symbol} {ks : List Left} {h : Here} {t : List ℕ} {b e c k : ℕ} {w : Option ℕ} {q : Row} {r : Read} {t' : List ℕ} (p : ℕ) → p ≤ 1 → Going f (at d (closes close_brace ∷ fields_tail p ss) ∷ ks) h t (many b e c w) 0 k → q ≡ record_row b (end_of h) c p → f.from.rows ≡ since → Closed f.text h t close_brace q since r t' → Partly f r t' (λ m h'. Going f (at (after closes_bracket d) ss ∷ ks) h' t' (lone m.kind m.start m.end) 0 k)
 unfolding kept
-fields_end {f} {since} {d} {ss} {ks} {h} {t} {b} {e} {c} {k} {w} {q} {r} {t'} p n g i o u = go (eqb (word_of h) close-brace) refl
+fields_end {f} {since} {d} {ss} {ks} {h} {t} {b} {e} {c} {k} {w} {q} {r} {t'} p n g i o u = go (eqb (word_of h) close_brace) refl
   where
     G : Node → Here → Type 0
     G m h' = Going f (at (after closes_bracket d) ss ∷ ks) h' t' (lone m.kind m.start m.end) 0 k
@@ -403,21 +401,21 @@ fields_end {f} {since} {d} {ss} {ks} {h} {t} {b} {e} {c} {k} {w} {q} {r} {t'} p 
     wrote_row (suc zero) n i g j = writes (parts g) refl refl i refl j
     wrote_row (suc (suc x)) n i g j = absurd (omega (arith, n))
 
-    closed : word_of h ≡ close-brace → Partly f r t' G
+    closed : word_of h ≡ close_brace → Partly f r t' G
     closed m = let b = u.closed m in partly b.0 (wrote_row p n i (fewer (k + 1) (omega arith) (takes g tt (is_word m) tt refl)) (put_since _ (passed f.text h) _ o (put_behind f.text h t q since b.1)))
 
-    missed : word_of h ≢ close-brace → Partly f r t' G
+    missed : word_of h ≢ close_brace → Partly f r t' G
     missed m = let b = u.other m in partly_stops b.0 (subst (λ (y : List ℕ). Stopped f (unused_at h) y) (sym b.1) (refuses_word g (λ y. m (the_word y))))
 
-    go : (b : Bool) → eqb (word_of h) close-brace ≡ b → Partly f r t' G
-    go true y = closed (eqb→eq (word_of h) close-brace (subst T (sym y) tt))
+    go : (b : Bool) → eqb (word_of h) close_brace ≡ b → Partly f r t' G
+    go true y = closed (eqb→eq (word_of h) close_brace (subst T (sym y) tt))
     go false y = missed (λ m. subst T (ap (λ (b : ℕ). eqb (word_of h) b) m ∙ y) (eqb_refl (word_of h)))
 
 -- The fields of a record, from where its loop began.
 module _ {s : List ℕ} {l : Limits} {h₀ : Here} {t₀ : List ℕ} {p : ℕ} {h : Here} {t : List ℕ} {c : ℕ} (g : l.signs ≡ 32) (w : Loops fields_list s l h₀ t₀ p h t c) (start since : ℕ) where
-  module _ (f : Phrase) (d : Counts) (ss : List Symbol) (ks : List Left) (e k : ℕ) (x : Option ℕ) (i : f.text ≡ s) (j : d ≡ counts l) (u : Going f (at d (a FIELDS ∷ closes close-brace ∷ fields_tail p ss) ∷ ks) h₀ t₀ (many start e p x) 0 k ⊎ (Going f (at d (a FIELD ∷ a FIELDS-MORE ∷ closes close-brace ∷ fields_tail p ss) ∷ ks) h₀ t₀ (many start e p x) 0 k × T (one_of (word_of h₀) names))) where
-    fielding : Listing fields_list f d (closes close-brace ∷ fields_tail p ss) ks start (0 + c) x 0 k h t
-    fielding = w.goes f d (closes close-brace ∷ fields_tail p ss) ks start 0 x 0 k i j (ap (after plain) j ∙ counts_same l g ∙ sym j) (subst (λ (n : ℕ). Listing fields_list f d (closes close-brace ∷ fields_tail p ss) ks start n x 0 k h₀ t₀) none_more (record { end = e; sign = x; settled = λ z. refl; going = elim u [ inl v ↦ inl (alone v) | inr v ↦ inr v ] }))
+  module _ (f : Phrase) (d : Counts) (ss : List Symbol) (ks : List Left) (e k : ℕ) (x : Option ℕ) (i : f.text ≡ s) (j : d ≡ counts l) (u : Going f (at d (a FIELDS ∷ closes close_brace ∷ fields_tail p ss) ∷ ks) h₀ t₀ (many start e p x) 0 k ⊎ (Going f (at d (a FIELD ∷ a FIELDS_MORE ∷ closes close_brace ∷ fields_tail p ss) ∷ ks) h₀ t₀ (many start e p x) 0 k × T (one_of (word_of h₀) names))) where
+    fielding : Listing fields_list f d (closes close_brace ∷ fields_tail p ss) ks start (0 + c) x 0 k h t
+    fielding = w.goes f d (closes close_brace ∷ fields_tail p ss) ks start 0 x 0 k i j (ap (after plain) j ∙ counts_same l g ∙ sym j) (subst (λ (n : ℕ). Listing fields_list f d (closes close_brace ∷ fields_tail p ss) ks start n x 0 k h₀ t₀) none_more (record { end = e; sign = x; settled = λ z. refl; going = elim u [ inl v ↦ inl (alone v) | inr v ↦ inr v ] }))
       where
         none_more : p ≡ 0 + p
         none_more = omega arith
@@ -426,8 +424,8 @@ module _ {s : List ℕ} {l : Limits} {h₀ : Here} {t₀ : List ℕ} {p : ℕ} {
     pub fields_stop : {y : Refusal} → r ≡ Refused y → Fielded s h₀ t₀ l start p since r t'
     fields_stop y = λ f d ss ks e k x i a j u. partly_stops y (item_stops fields_list (fielding f d ss ks e k x i j u) o (of_text f i j v) y)
 
-    pub fields_last : {m : Node} {z : Here} {q : Row} {r' : Read} {t'' : List ℕ} → p ≤ 1 → r ≡ Done m z → word_of z ≢ comma → q ≡ record_row start (end_of z) (c + 1) p → Closed s z t' close-brace q since r' t'' → Fielded s h₀ t₀ l start p since r' t''
-    fields_last {m} {z} {q} {r'} {t''} n y b ρ a = λ f d ss ks e k x i o' j u. fields_end p n (no_comma fields_list (reads_item fields_list (fielding f d ss ks e k x i j u) o (of_text f i j v) y) b).going (ρ ∙ ap (λ (k : ℕ). record_row start (end_of z) k p) (omega arith)) o' (subst (λ (x : List ℕ). Closed x z t' close-brace q since r' t'') (sym i) a)
+    pub fields_last : {m : Node} {z : Here} {q : Row} {r' : Read} {t'' : List ℕ} → p ≤ 1 → r ≡ Done m z → word_of z ≢ comma → q ≡ record_row start (end_of z) (c + 1) p → Closed s z t' close_brace q since r' t'' → Fielded s h₀ t₀ l start p since r' t''
+    fields_last {m} {z} {q} {r'} {t''} n y b ρ a = λ f d ss ks e k x i o' j u. fields_end p n (no_comma fields_list (reads_item fields_list (fielding f d ss ks e k x i j u) o (of_text f i j v) y) b).going (ρ ∙ ap (λ (k : ℕ). record_row start (end_of z) k p) (omega arith)) o' (subst (λ (x : List ℕ). Closed x z t' close_brace q since r' t'') (sym i) a)
 
-  pub fields_over : {q : Row} {r : Read} {t' : List ℕ} → p ≤ 1 → (T (one_of (word_of h) names) → ⊥) → q ≡ record_row start (end_of h) c p → Closed s h t close-brace q since r t' → Fielded s h₀ t₀ l start p since r t'
-  fields_over {q} {r} {t'} n o ρ a = λ f d ss ks e k x i o' j u. fields_end p n (no_item fields_list (fielding f d ss ks e k x i j u) o).going (ρ ∙ ap (λ (k : ℕ). record_row start (end_of h) k p) (omega arith)) o' (subst (λ (x : List ℕ). Closed x h t close-brace q since r t') (sym i) a)
+  pub fields_over : {q : Row} {r : Read} {t' : List ℕ} → p ≤ 1 → (T (one_of (word_of h) names) → ⊥) → q ≡ record_row start (end_of h) c p → Closed s h t close_brace q since r t' → Fielded s h₀ t₀ l start p since r t'
+  fields_over {q} {r} {t'} n o ρ a = λ f d ss ks e k x i o' j u. fields_end p n (no_item fields_list (fielding f d ss ks e k x i j u) o).going (ρ ∙ ap (λ (k : ℕ). record_row start (end_of h) k p) (omega arith)) o' (subst (λ (x : List ℕ). Closed x h t close_brace q since r t') (sym i) a)

@@ -6,14 +6,14 @@ use Prim.Native.Nat.{ℕ, ◌+◌, ◌≤◌, ◌<◌}
 use lib.Dec.{T}
 use lib.ListN.{length}
 use native.Mathlib.Omega.{arith}
-use Rattle.rows.specs.Kinds.{kinds}
+use Rattle.rows.specs.Kinds as kinds
 use Rattle.tokens.specs.declared.Refusal.{Refusal}
 use Rattle.rows.specs.declared.Row.{Row}
-use Rattle.grammar.specs.Words.{words}
+use Rattle.grammar.specs.Words.{dot}
 use Rattle.grammar.specs.Grammar.{Symbol, plain, one_of}
 use Rattle.grammar.specs.Limits.{Counts, after, inside, kept}
 use Rattle.grammar.specs.Table.{one, a, row}
-use Rattle.grammar.specs.Kinds.{phrases}
+use Rattle.grammar.specs.Kinds.{PATH_ITEM, PATH, PATH_REST}
 use Rattle.grammar.proofs.Summary.{or_word}
 use Rattle.parser.specs.declared.Here.{Here}
 use Rattle.parser.specs.declared.Node.{Node}
@@ -28,8 +28,6 @@ use Rattle.promises.specs.Firsts.{undotted}
 use Rattle.promises.specs.Promises.{the, item_row, wrote, Anyhow}
 use Rattle.promises.proofs.Answered.{further, put_behind}
 use Rattle.promises.proofs.Alternatives.{path_any, path_rest_on, path_rest_off}
-open words use {dot}
-open phrases use {PATH-ITEM, PATH, PATH-REST}
 
 -- a token that is a row of kind 1, whatever the kind and its words
 module _ {n : ℕ} {w : List ℕ} (p : Off n (some (one w ∷ row kinds.NAME ∷ [])) []) (s : List ℕ) (d : Counts) (h : Here) (t : List ℕ) (g : Stands s h) where
@@ -44,22 +42,22 @@ abbrev path_row : ℕ → ℕ → ℕ → Row
 path_row a e c = plain_row kinds.PATH a e c
 
 abbrev item_symbol : Symbol
-item_symbol = a PATH-ITEM
+item_symbol = a PATH_ITEM
 
 abbrev rest_symbol : Symbol
-rest_symbol = a PATH-REST
+rest_symbol = a PATH_REST
 
 -- a path that was begun: behind an item of it
 pub record Begun (f : Phrase) (start end children : ℕ) (h : Here) (t : List ℕ) : Type 0 where
   pub counts : Counts
   pub sign : Option ℕ
-  pub going : Going f (at counts (a PATH-REST ∷ []) ∷ at f.counts (row kinds.PATH ∷ []) ∷ []) h t (many start end children sign) 0 3
+  pub going : Going f (at counts (a PATH_REST ∷ []) ∷ at f.counts (row kinds.PATH ∷ []) ∷ []) h t (many start end children sign) 0 3
 
 module _ (s : List ℕ) (i : Here) (t₀ : List ℕ) (d : Counts) where
   abbrev Path : Phrase
   Path = the s d PATH i t₀
 
-  module _ (g : Stands s i) {r : Read} {t : List ℕ} (u : Anyhow s PATH-ITEM i t₀ 3 r t) where
+  module _ (g : Stands s i) {r : Read} {t : List ℕ} (u : Anyhow s PATH_ITEM i t₀ 3 r t) where
     pub path_begins : {m : Node} {h : Here} → r ≡ Done m h → Begun Path m.start m.end 1 h t
     unfolding inside
     path_begins e = record { counts = d; sign = none; going = as_many (alone (reads_one (begins_any path_any g) refl refl (whole_of (u d) e))) }
@@ -74,16 +72,16 @@ module _ (s : List ℕ) (i : Here) (t₀ : List ℕ) (d : Counts) where
       unfolding inside kept
       behind = takes (into_on path_rest_on refl (is_word m) b.going) tt (is_word m) tt p
 
-      pub path_more : {r : Read} {t' : List ℕ} {x : Node} {z : Here} → Anyhow s PATH-ITEM h' t 3 r t' → r ≡ Done x z → Begun Path a x.end (c + 1) z t'
+      pub path_more : {r : Read} {t' : List ℕ} {x : Node} {z : Here} → Anyhow s PATH_ITEM h' t 3 r t' → r ≡ Done x z → Begun Path a x.end (c + 1) z t'
       unfolding inside
       path_more u q = record { counts = after plain b.counts; sign = or_word b.sign (word_of h); going = fewer 3 (omega arith) (last (reads_one behind refl refl (whole_of (u (after plain b.counts)) q))) }
 
-      pub path_fails : {r : Read} {t' : List ℕ} {x : Refusal} → Anyhow s PATH-ITEM h' t 3 r t' → r ≡ Refused x → Answers Path 2 r t'
+      pub path_fails : {r : Read} {t' : List ℕ} {x : Refusal} → Anyhow s PATH_ITEM h' t 3 r t' → r ≡ Refused x → Answers Path 2 r t'
       unfolding inside
       path_fails u q = relays behind refl (u (after plain b.counts)) q
 
       -- it went on, and stays within the source
-      pub path_onward : {r : Read} {t' : List ℕ} {x : Node} {z : Here} → Anyhow s PATH-ITEM h' t 3 r t' → r ≡ Done x z → (next_of h < next_of z) × (next_of z ≤ length s + 1)
+      pub path_onward : {r : Read} {t' : List ℕ} {x : Node} {z : Here} → Anyhow s PATH_ITEM h' t 3 r t' → r ≡ Done x z → (next_of h < next_of z) × (next_of z ≤ length s + 1)
       path_onward u q =
           let a = past_word (dot ∷ []) b.going.stands tt (is_word m) p in
           let k = further (u d) q in

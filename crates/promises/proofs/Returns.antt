@@ -9,14 +9,14 @@ use lib.Dec.{eqb, T, T_not}
 use lib.ListN.{length, set, length-set}
 use native.Mathlib.Omega.{arith}
 use native.Mathlib.Numerals.{add-one}
-use Rattle.rows.specs.Kinds.{kinds}
+use Rattle.rows.specs.Kinds as kinds
 use Rattle.tokens.specs.declared.Refusal.{Refusal}
 use Rattle.rows.specs.declared.Row.{Row}
 use Rattle.grammar.specs.Words.{return_words}
 use Rattle.grammar.specs.Grammar.{one_of}
 use Rattle.grammar.specs.Limits.{inside}
 use Rattle.grammar.specs.Table.{a, row}
-use Rattle.grammar.specs.Kinds.{phrases}
+use Rattle.grammar.specs.Kinds.{EXPR, RETURNED}
 use Rattle.grammar.specs.Rows.{place_in, detail_for}
 use Rattle.parser.specs.declared.Here.{Here}
 use Rattle.parser.specs.declared.Limits.{Limits}
@@ -35,7 +35,6 @@ use Rattle.promises.proofs.Answered.{put_since, finished}
 use Rattle.promises.proofs.Exprs.{goes_on, is_return, no_return, returned_none, returned_some, return_deep, return_goes}
 use Rattle.promises.proofs.Heads.{reads_it, refuses_it}
 use Rattle.promises.proofs.Overs.{Over, over_none, over_refused, over_ends, over_deeper, pushed_set}
-open phrases use {EXPR, RETURNED}
 
 -- A return form from behind its word on, if no other stands there.
 abbrev Last : List ℕ → Here → List ℕ → Limits → Bool → Node → ℕ → ℕ → Read → List ℕ → Type 0

@@ -11,15 +11,15 @@ use lib.ListN.{length}
 use lib.Seq.{slice}
 use native.Mathlib.Nat.{add-zero}
 use native.Mathlib.Omega.{arith}
-use Rattle.rows.specs.Kinds.{kinds}
+use Rattle.rows.specs.Kinds as kinds
 use Rattle.tokens.specs.declared.Refusal.{Refusal}
 use Rattle.rows.specs.declared.Row.{Row}
 use Rattle.rows.specs.Rows.{put_row}
-use Rattle.grammar.specs.Words.{words}
+use Rattle.grammar.specs.Words.{f_quote, text_then_hole, last_text, open_brace, close_brace}
 use Rattle.grammar.specs.Grammar.{Ask, plain, has_value, opens_bracket, closes_bracket, same, Symbol, token, phrase, text, Token, found}
 use Rattle.grammar.specs.Limits.{Counts, after, inside, kept}
 use Rattle.grammar.specs.Table.{word, a, opens, closes, row}
-use Rattle.grammar.specs.Kinds.{records, phrases}
+use Rattle.grammar.specs.Kinds.{records, F_STRING, HOLE, EXPR}
 use Rattle.grammar.specs.Language.{roto}
 use Rattle.grammar.specs.Rows.{is_text, token_nodes}
 use Rattle.grammar.specs.Refusals.{torn}
@@ -50,18 +50,16 @@ use Rattle.parser.proofs.Texts.{wrote_text, count_token, spells, tears_off, spoi
 use Rattle.promises.specs.Promises.{the, Partly}
 use Rattle.promises.proofs.Answered.{further}
 use Rattle.promises.proofs.Partly.{partly, partly_of, partly_stops, stops_answer}
-open words use {f-quote, text-then-hole, last-text, open-brace, close-brace}
-open phrases use {F-STRING, HOLE, EXPR}
 
 abbrev pub string_is : List Symbol
-string_is = word f-quote ∷ text HOLE ∷ row kinds.F-STRING ∷ []
+string_is = word f_quote ∷ text HOLE ∷ row kinds.F_STRING ∷ []
 
-pub string_any : Off F-STRING (some string_is) []
+pub string_any : Off F_STRING (some string_is) []
 unfolding roto picks_off
 string_any = record { computed = tt }
 
 abbrev pub hole_is : List Symbol
-hole_is = opens open-brace ∷ a (EXPR records) ∷ closes close-brace ∷ text HOLE ∷ []
+hole_is = opens open_brace ∷ a (EXPR records) ∷ closes close_brace ∷ text HOLE ∷ []
 
 pub hole_any : Off HOLE (some hole_is) []
 unfolding roto picks_off
@@ -69,8 +67,8 @@ hole_any = record { computed = tt }
 
 -- what is left of an f-string behind its first piece of text, and behind a later one
 pub data Tail : List Symbol → List Left → Type 0 where
-  first : Tail (row kinds.F-STRING ∷ []) []
-  later_one : {d d' : Counts} → Tail [] (at d [] ∷ at d' (row kinds.F-STRING ∷ []) ∷ [])
+  first : Tail (row kinds.F_STRING ∷ []) []
+  later_one : {d d' : Counts} → Tail [] (at d [] ∷ at d' (row kinds.F_STRING ∷ []) ∷ [])
 
 -- the f-string f stands at a token behind which text begins: its `f"`, or the `}` of a hole; it has c rows so far
 pub record Spelling (f : Phrase) (l : Limits) (start c : ℕ) (h : Here) (t : List ℕ) : Type 0 where
@@ -94,20 +92,20 @@ pub record Holed (f : Phrase) (l : Limits) (start e c : ℕ) (h : Here) (t : Lis
   pub before : Counts
   pub around : Counts
   pub alike : Alike before l
-  pub going : Going f (at before (a HOLE ∷ []) ∷ at around (row kinds.F-STRING ∷ []) ∷ []) h t (many start e c (some 90)) 0 4
+  pub going : Going f (at before (a HOLE ∷ []) ∷ at around (row kinds.F_STRING ∷ []) ∷ []) h t (many start e c (some 90)) 0 4
 
 pub record Quoted (f : Phrase) (start e c : ℕ) (h : Here) (t : List ℕ) : Type 0 where
   pub around : Counts
-  pub going : Going f (at around (row kinds.F-STRING ∷ []) ∷ []) h t (many start e c (some 90)) 0 4
+  pub going : Going f (at around (row kinds.F_STRING ∷ []) ∷ []) h t (many start e c (some 90)) 0 4
 
 -- it begins
-pub spelling_begins : (s : List ℕ) (l : Limits) (h : Here) (t : List ℕ) → Stands s h → word_of h ≡ 90 → Spelling (the s (counts l) F-STRING h t) l (start_of h) 0 h t
+pub spelling_begins : (s : List ℕ) (l : Limits) (h : Here) (t : List ℕ) → Stands s h → word_of h ≡ 90 → Spelling (the s (counts l) F_STRING h t) l (start_of h) 0 h t
 unfolding kept after counts
 spelling_begins s l h t g e = record {
   ask = plain;
   sign = 90;
   before = counts l;
-  rest = row kinds.F-STRING ∷ [];
+  rest = row kinds.F_STRING ∷ [];
   stack = [];
   tally = bare;
   end = end_of h;
@@ -122,9 +120,9 @@ spelling_begins s l h t g e = record {
 
 -- a piece of text
 module _ {f : Phrase} {l : Limits} {start c : ℕ} {h : Here} {t : List ℕ} (g : Spelling f l start c h t) where
-  pub spelling_hole : {x : Token} {j : ℕ} {h' : Here} {t' : List ℕ} → (source f.text).piece (next_of h) ≡ found x j → x.word ≡ text-then-hole → T x.holds → T (is_text x) → next_of h + token_nodes x ≤ j → j ≤ length f.text → h' ≡ here_at f.text j (h.rows + token_nodes x) → t' ≡ wrote_text t h.rows x → Holed f l start x.end (c + token_nodes x) h' t'
+  pub spelling_hole : {x : Token} {j : ℕ} {h' : Here} {t' : List ℕ} → (source f.text).piece (next_of h) ≡ found x j → x.word ≡ text_then_hole → T x.holds → T (is_text x) → next_of h + token_nodes x ≤ j → j ≤ length f.text → h' ≡ here_at f.text j (h.rows + token_nodes x) → t' ≡ wrote_text t h.rows x → Holed f l start x.end (c + token_nodes x) h' t'
   unfolding roto
-  spelling_hole {x} {j} {h'} {t'} p w k i lo hi e q = go g.tail (spells g.going g.words (is_word g.stands_there) g.passes g.has p k i lo hi (ap (λ (n : ℕ). cond (eqb n text-then-hole) (phrase same HOLE ∷ g.rest) g.rest) w) e q)
+  spelling_hole {x} {j} {h'} {t'} p w k i lo hi e q = go g.tail (spells g.going g.words (is_word g.stands_there) g.passes g.has p k i lo hi (ap (λ (n : ℕ). cond (eqb n text_then_hole) (phrase same HOLE ∷ g.rest) g.rest) w) e q)
     where
       d : Counts
       d = after has_value (after g.ask g.before)
@@ -133,9 +131,9 @@ module _ {f : Phrase} {l : Limits} {start c : ℕ} {h : Here} {t : List ℕ} (g 
       go first y = record { before = d; around = d; alike = g.alike; going = alone y }
       go (later_one {d' = d'}) y = record { before = d; around = d'; alike = g.alike; going = last y }
 
-  pub spelling_last : {x : Token} {j : ℕ} {h' : Here} {t' : List ℕ} → (source f.text).piece (next_of h) ≡ found x j → x.word ≡ last-text → T x.holds → T (is_text x) → next_of h + token_nodes x ≤ j → j ≤ length f.text → h' ≡ here_at f.text j (h.rows + token_nodes x) → t' ≡ wrote_text t h.rows x → Quoted f start x.end (c + token_nodes x) h' t'
+  pub spelling_last : {x : Token} {j : ℕ} {h' : Here} {t' : List ℕ} → (source f.text).piece (next_of h) ≡ found x j → x.word ≡ last_text → T x.holds → T (is_text x) → next_of h + token_nodes x ≤ j → j ≤ length f.text → h' ≡ here_at f.text j (h.rows + token_nodes x) → t' ≡ wrote_text t h.rows x → Quoted f start x.end (c + token_nodes x) h' t'
   unfolding roto
-  spelling_last {x} {j} {h'} {t'} p w k i lo hi e q = go g.tail (spells g.going g.words (is_word g.stands_there) g.passes g.has p k i lo hi (ap (λ (n : ℕ). cond (eqb n text-then-hole) (phrase same HOLE ∷ g.rest) g.rest) w) e q)
+  spelling_last {x} {j} {h'} {t'} p w k i lo hi e q = go g.tail (spells g.going g.words (is_word g.stands_there) g.passes g.has p k i lo hi (ap (λ (n : ℕ). cond (eqb n text_then_hole) (phrase same HOLE ∷ g.rest) g.rest) w) e q)
     where
       d : Counts
       d = after has_value (after g.ask g.before)
@@ -152,7 +150,7 @@ module _ {f : Phrase} {l : Limits} {start c : ℕ} {h : Here} {t : List ℕ} (g 
 
 -- into a hole, and behind its expr
 module _ {f : Phrase} {l : Limits} {start e c : ℕ} {h : Here} {t : List ℕ} (g : Holed f l start e c h t) {r : Read} (p : r ≡ opening f.text h 40 l.brackets) {x : Node} {z : Here} (i : r ≡ Done x z) where
-  pub in_hole : Going f (at (after opens_bracket g.before) (a (EXPR records) ∷ closes close-brace ∷ text HOLE ∷ []) ∷ at g.before [] ∷ at g.around (row kinds.F-STRING ∷ []) ∷ []) z t (many start x.end c (some 90)) 0 8
+  pub in_hole : Going f (at (after opens_bracket g.before) (a (EXPR records) ∷ closes close_brace ∷ text HOLE ∷ []) ∷ at g.before [] ∷ at g.around (row kinds.F_STRING ∷ []) ∷ []) z t (many start x.end c (some 90)) 0 8
   unfolding inside
   in_hole = opens_on 40 l (into_off hole_any refl (λ q. q) g.going) tt g.alike p i
 
@@ -163,7 +161,7 @@ module _ {f : Phrase} {l : Limits} {start e c : ℕ} {h : Here} {t : List ℕ} (
     sign = 41;
     before = after opens_bracket g.before;
     rest = [];
-    stack = at g.before [] ∷ at g.around (row kinds.F-STRING ∷ []) ∷ [];
+    stack = at g.before [] ∷ at g.around (row kinds.F_STRING ∷ []) ∷ [];
     tally = many start m.end (c + 1) (some 90);
     end = end_of z';
     tail = later_one;
@@ -176,8 +174,8 @@ module _ {f : Phrase} {l : Limits} {start e c : ℕ} {h : Here} {t : List ℕ} (
   }
 
 -- its row
-pub quoted_ends : {f : Phrase} {start e c : ℕ} {h h' : Here} {t t' : List ℕ} {r : Read} → Quoted f start e c h t → r ≡ Done (node_of (plain_row kinds.F-STRING start e c)) h' → h' ≡ later h → t' ≡ put_over t h (plain_row kinds.F-STRING start e c) f.from.rows → Answers f 1 r t'
-quoted_ends {start = start} {e = e} {c = c} g v b q = done v (ends (out (writes {r = plain_row kinds.F-STRING start e c} (fewer 2 (omega arith) g.going) refl refl refl b q)) refl refl refl)
+pub quoted_ends : {f : Phrase} {start e c : ℕ} {h h' : Here} {t t' : List ℕ} {r : Read} → Quoted f start e c h t → r ≡ Done (node_of (plain_row kinds.F_STRING start e c)) h' → h' ≡ later h → t' ≡ put_over t h (plain_row kinds.F_STRING start e c) f.from.rows → Answers f 1 r t'
+quoted_ends {start = start} {e = e} {c = c} g v b q = done v (ends (out (writes {r = plain_row kinds.F_STRING start e c} (fewer 2 (omega arith) g.going) refl refl refl b q)) refl refl refl)
 
 -- What `parser::piece` answers: a hole is next, or the quote was (92); or a refusal. It has come past place n, with at most one row.
 abbrev pub After : Phrase → Limits → ℕ → ℕ → ℕ → List ℕ → Node → Here → Type 0
@@ -191,7 +189,7 @@ module _ {f : Phrase} {l : Limits} {start c : ℕ} {h : Here} {t : List ℕ} (g 
 
   -- a piece of some size, of one of the two words
   sized : {r : Read} {t' : List ℕ} (w e j n : ℕ) (b : Bool) → eqb n 0 ≡ b → T (is_text (text_token w (next_of h) e (Size.Is n))) → (source f.text).piece (next_of h) ≡ found (text_token w (next_of h) e (Size.Is n)) j → next_of h ≤ j → j ≤ length f.text
-      → (w ≡ text-then-hole) ⊎ (w ≡ last-text) → token_nodes (text_token w (next_of h) e (Size.Is n)) ≡ cond (eqb n 0) 0 1
+      → (w ≡ text_then_hole) ⊎ (w ≡ last_text) → token_nodes (text_token w (next_of h) e (Size.Is n)) ≡ cond (eqb n 0) 0 1
       → r ≡ Done (part_node w (next_of h) e (cond b 0 1)) (here_at f.text j (cond b h.rows (bumped h.rows))) → t' ≡ wrote_text t h.rows (text_token w (next_of h) e (Size.Is n)) → Partly f r t' (After f l start c (next_of h) t')
   sized {t' = t'} w e j n b eb is p lo hi ws nodes a q = partly a (go ws)
     where
@@ -217,11 +215,11 @@ module _ {f : Phrase} {l : Limits} {start c : ℕ} {h : Here} {t : List ℕ} (g 
       one_most true = omega arith
       one_most false = omega arith
 
-      go : (w ≡ text-then-hole) ⊎ (w ≡ last-text) → After f l start c (next_of h) t' (part_node w (next_of h) e (cond b 0 1)) z
+      go : (w ≡ text_then_hole) ⊎ (w ≡ last_text) → After f l start c (next_of h) t' (part_node w (next_of h) e (cond b 0 1)) z
       go (inl k) = (λ o. absurd (omega (arith, k, o)), λ o. subst (λ (m : ℕ). Holed f l start e m z t') count (spelling_hole g p k tt is low hi here q), beyond, one_most b)
       go (inr k) = (λ o. subst (λ (m : ℕ). Quoted f start e m z t') count (spelling_last g p k tt is low hi here q), λ o. absurd (o k), beyond, one_most b)
 
-  told : {r : Read} {t' : List ℕ} (w e j : ℕ) → ((n : ℕ) → T (is_text (text_token w (next_of h) e (Size.Is n)))) → ((n : ℕ) → token_nodes (text_token w (next_of h) e (Size.Is n)) ≡ cond (eqb n 0) 0 1) → next_of h ≤ j → j ≤ length f.text → (w ≡ text-then-hole) ⊎ (w ≡ last-text)
+  told : {r : Read} {t' : List ℕ} (w e j : ℕ) → ((n : ℕ) → T (is_text (text_token w (next_of h) e (Size.Is n)))) → ((n : ℕ) → token_nodes (text_token w (next_of h) e (Size.Is n)) ≡ cond (eqb n 0) 0 1) → next_of h ≤ j → j ≤ length f.text → (w ≡ text_then_hole) ⊎ (w ≡ last_text)
       → (z : Size) → (source f.text).piece (next_of h) ≡ found (text_token w (next_of h) e z) j → r ≡ piece_read f.text h.rows (next_of h) w e j z → t' ≡ piece_table t h.rows (next_of h) e z → Partly f r t' (After f l start c (next_of h) t')
   unfolding piece_read piece_table
   told {r} {t'} w e j is nodes lo hi ws Size.None p a q = partly_stops a (subst (λ (y : List ℕ). Stopped f (refusal_at 7 (next_of h) e) y) (sym q) (spelling_ill g p tt))
@@ -247,9 +245,9 @@ module _ {f : Phrase} {l : Limits} {start c : ℕ} {h : Here} {t : List ℕ} (g 
       part_told (a ∙ ap (λ (n : ℕ). part_read f.text h.rows n (part_at f.text n)) e) (q ∙ ap (λ (n : ℕ). part_table f.text t h.rows n (part_at f.text n)) e)
 
 -- The reader's loop, from where it stands at `f"` or a hole's `}`.
-module _ {s : List ℕ} {l : Limits} {h₀ : Here} {t₀ : List ℕ} {c : ℕ} {h : Here} {t : List ℕ} (g : Spelling (the s (counts l) F-STRING h₀ t₀) l (start_of h₀) c h t) where
+module _ {s : List ℕ} {l : Limits} {h₀ : Here} {t₀ : List ℕ} {c : ℕ} {h : Here} {t : List ℕ} (g : Spelling (the s (counts l) F_STRING h₀ t₀) l (start_of h₀) c h t) where
   abbrev String : Phrase
-  String = the s (counts l) F-STRING h₀ t₀
+  String = the s (counts l) F_STRING h₀ t₀
 
   pub string_few : (c < 300000) × (next_of h₀ ≤ next_of h) × (next_of h ≤ 65536)
   string_few = let k = few_rows g.going in let e : c ≡ count_of g.tally = sym (ap count_of g.has) ∙ count_token g.tally h in (omega (arith, k.3, e), k.4, omega (arith, k.1, k.2))
@@ -262,7 +260,7 @@ module _ {s : List ℕ} {l : Limits} {h₀ : Here} {t₀ : List ℕ} {c : ℕ} {
       pub behind_piece : After String l (start_of h₀) c (next_of h) t₁ m z
       behind_piece = partly_of (piece_told g p q) i
 
-      pub string_ends : {v : Row} {r₁ : Read} {t₂ : List ℕ} → m.kind ≡ 92 → v ≡ plain_row kinds.F-STRING (start_of h₀) m.end (c + m.children) → r₁ ≡ Done (node_of v) (later z) → t₂ ≡ put_over t₁ z v h₀.rows → Answers String 1 r₁ t₂
+      pub string_ends : {v : Row} {r₁ : Read} {t₂ : List ℕ} → m.kind ≡ 92 → v ≡ plain_row kinds.F_STRING (start_of h₀) m.end (c + m.children) → r₁ ≡ Done (node_of v) (later z) → t₂ ≡ put_over t₁ z v h₀.rows → Answers String 1 r₁ t₂
       string_ends k v o y = quoted_ends (behind_piece.0 k) (o ∙ ap (λ (x : Row). Done (node_of x) (later z)) v) refl (y ∙ ap (λ (x : Row). put_over t₁ z x h₀.rows) v)
 
       -- into a hole

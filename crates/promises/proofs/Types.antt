@@ -7,14 +7,14 @@ use Prim.Native.Nat.{ℕ, ◌+◌, ◌-◌, ◌<◌}
 use lib.Dec.{T}
 use lib.ListN.{length}
 use native.Mathlib.Omega.{arith}
-use Rattle.rows.specs.Kinds.{kinds}
+use Rattle.rows.specs.Kinds as kinds
 use Rattle.tokens.specs.declared.Refusal.{Refusal}
 use Rattle.rows.specs.declared.Row.{Row}
-use Rattle.grammar.specs.Words.{path_items, words}
+use Rattle.grammar.specs.Words.{close_paren, ':', path_items}
 use Rattle.grammar.specs.Grammar.{plain, opens_bracket, Symbol, one_of}
 use Rattle.grammar.specs.Limits.{Counts, after, inside, kept}
 use Rattle.grammar.specs.Table.{word, a, row, part, closes, rest_kinds}
-use Rattle.grammar.specs.Kinds.{phrases}
+use Rattle.grammar.specs.Kinds.{RESULT, LET_TYPE, NAME, NAMES, TYPED_NAME, TYPED_NAMES, PATH, PATTERN, TYPE, TYPE_BASE, TYPE_BRACKETS, TYPE_MARKS, TYPES, VARIANT, VARIANT_NAMES}
 use Rattle.grammar.proofs.Open.{Left}
 use Rattle.grammar.proofs.Summary.{or_word}
 use Rattle.parser.specs.declared.Here.{Here}
@@ -34,80 +34,78 @@ use Rattle.promises.specs.Promises.{the, Anyhow, Partly, item_row, wrote, Listed
 use Rattle.promises.proofs.Alternatives.{type_any, type_marks_on, type_marks_off, type_base_never_on, type_base_unit_on, type_base_record_on, type_base_path_on, type_base_off, type_brackets_on, type_brackets_off, typed_name_any, result_on, result_off, let_type_on, let_type_off, pattern_variant_on, pattern_underscore_on, pattern_off, variant_any, variant_names_on, variant_names_off}
 use Rattle.promises.proofs.Partly.{partly_of, partly, stops_answer, relays_partly}
 use Rattle.promises.proofs.Answered.{of_text, behind_plain, none_fits, done_is, not_first, put_behind, put_since, finished, finished_in, word_row}
-open words use {close-paren, ':'}
-open phrases use {RESULT, LET-TYPE, NAME, NAMES, TYPED-NAME, TYPED-NAMES, PATH, PATTERN, TYPE, TYPE-BASE, TYPE-BRACKETS, TYPE-MARKS, TYPES, VARIANT, VARIANT-NAMES}
 
 -- `!`
-pub never_read : {s : List ℕ} {h h' : Here} {t t' : List ℕ} {q : Row} {r : Read} → Stands s h → word_of h ≡ 52 → h' ≡ passed s h → q ≡ plain_row kinds.NEVER (start_of h) (end_of h) 0 → r ≡ Done (node_of q) (later h') → t' ≡ put_over t h' q h.rows → Anyhow s TYPE-BASE h t 1 r t'
+pub never_read : {s : List ℕ} {h h' : Here} {t t' : List ℕ} {q : Row} {r : Read} → Stands s h → word_of h ≡ 52 → h' ≡ passed s h → q ≡ plain_row kinds.NEVER (start_of h) (end_of h) 0 → r ≡ Done (node_of q) (later h') → t' ≡ put_over t h' q h.rows → Anyhow s TYPE_BASE h t 1 r t'
 never_read g m p e u w d = word_row (begins_on type_base_never_on g (is_word m)) tt refl refl (omega arith) m p e u w
 
 -- `( )`
 module _ (l : Limits) {s : List ℕ} {h : Here} {t : List ℕ} {r : Read} (g : Stands s h) (m : word_of h ≡ 42) (u : r ≡ opening s h 42 l.brackets) where
-  pub unit_unopened : {e : Refusal} → r ≡ Refused e → Answers (the s (counts l) TYPE-BASE h t) 1 r t
+  pub unit_unopened : {e : Refusal} → r ≡ Refused e → Answers (the s (counts l) TYPE_BASE h t) 1 r t
   unit_unopened q = stopped q (opens_off 42 l (begins_on type_base_unit_on g (is_word m)) tt (alike_counts l) u q)
 
-  pub unit_opened : {x : Node} {z : Here} → r ≡ Done x z → Going (the s (counts l) TYPE-BASE h t) (at (after opens_bracket (counts l)) (closes close-paren ∷ row kinds.UNIT ∷ []) ∷ []) z t (many x.start x.end 0 (some 42)) 0 4
+  pub unit_opened : {x : Node} {z : Here} → r ≡ Done x z → Going (the s (counts l) TYPE_BASE h t) (at (after opens_bracket (counts l)) (closes close_paren ∷ row kinds.UNIT ∷ []) ∷ []) z t (many x.start x.end 0 (some 42)) 0 4
   unit_opened q = opens_on 42 l (begins_on type_base_unit_on g (is_word m)) tt (alike_counts l) u q
 
   module _ {x : Node} {z : Here} (q : r ≡ Done x z) {r₁ : Read} (v : r₁ ≡ expected s z 43) where
-    pub unit_unclosed : {e : Refusal} → r₁ ≡ Refused e → Answers (the s (counts l) TYPE-BASE h t) 1 r₁ t
+    pub unit_unclosed : {e : Refusal} → r₁ ≡ Refused e → Answers (the s (counts l) TYPE_BASE h t) 1 r₁ t
     unit_unclosed p = stopped p (misses 43 (unit_opened q) tt v p)
 
-    pub unit_read : {x₁ : Node} {z₁ : Here} {b : Row} {r₂ : Read} {t' : List ℕ} → r₁ ≡ Done x₁ z₁ → b ≡ plain_row kinds.UNIT x.start x₁.end 0 → r₂ ≡ Done (node_of b) (later z₁) → t' ≡ put_over t z₁ b h.rows → Answers (the s (counts l) TYPE-BASE h t) 1 r₂ t'
+    pub unit_read : {x₁ : Node} {z₁ : Here} {b : Row} {r₂ : Read} {t' : List ℕ} → r₁ ≡ Done x₁ z₁ → b ≡ plain_row kinds.UNIT x.start x₁.end 0 → r₂ ≡ Done (node_of b) (later z₁) → t' ≡ put_over t z₁ b h.rows → Answers (the s (counts l) TYPE_BASE h t) 1 r₂ t'
     unit_read p e w k = finished (closes_on 43 (unit_opened q) tt v p) (omega arith) refl refl e w k
 
 -- `{ list of name : type }`
-module _ {s : List ℕ} {l : Limits} {h : Here} {t : List ℕ} {r : Read} {t₁ : List ℕ} (g : Stands s h) (m : word_of h ≡ 40) (u : Listed s h t l 40 TYPED-NAMES 41 r t₁) where
-  fields_partly : Partly (the s (counts l) TYPE-BASE h t) r t₁ (λ x z. Going (the s (counts l) TYPE-BASE h t) (at (after plain (counts l)) (row kinds.RECORD-TYPE ∷ []) ∷ []) z t₁ (many x.start x.end x.children (some 40)) 0 4)
-  fields_partly = u (the s (counts l) TYPE-BASE h t) (counts l) (row kinds.RECORD-TYPE ∷ []) [] bare 0 0 refl (alike_counts l) (begins_on type_base_record_on g (is_word m))
+module _ {s : List ℕ} {l : Limits} {h : Here} {t : List ℕ} {r : Read} {t₁ : List ℕ} (g : Stands s h) (m : word_of h ≡ 40) (u : Listed s h t l 40 TYPED_NAMES 41 r t₁) where
+  fields_partly : Partly (the s (counts l) TYPE_BASE h t) r t₁ (λ x z. Going (the s (counts l) TYPE_BASE h t) (at (after plain (counts l)) (row kinds.RECORD_TYPE ∷ []) ∷ []) z t₁ (many x.start x.end x.children (some 40)) 0 4)
+  fields_partly = u (the s (counts l) TYPE_BASE h t) (counts l) (row kinds.RECORD_TYPE ∷ []) [] bare 0 0 refl (alike_counts l) (begins_on type_base_record_on g (is_word m))
 
-  pub fields_refused : {e : Refusal} → r ≡ Refused e → Answers (the s (counts l) TYPE-BASE h t) 1 r t₁
+  pub fields_refused : {e : Refusal} → r ≡ Refused e → Answers (the s (counts l) TYPE_BASE h t) 1 r t₁
   fields_refused q = stops_answer fields_partly q
 
-  pub fields_read : {x : Node} {z : Here} {b : Row} {r₁ : Read} {t₂ : List ℕ} → r ≡ Done x z → b ≡ plain_row kinds.RECORD-TYPE x.start x.end x.children → r₁ ≡ Done (node_of b) (later z) → t₂ ≡ put_over t₁ z b h.rows → Answers (the s (counts l) TYPE-BASE h t) 1 r₁ t₂
+  pub fields_read : {x : Node} {z : Here} {b : Row} {r₁ : Read} {t₂ : List ℕ} → r ≡ Done x z → b ≡ plain_row kinds.RECORD_TYPE x.start x.end x.children → r₁ ≡ Done (node_of b) (later z) → t₂ ≡ put_over t₁ z b h.rows → Answers (the s (counts l) TYPE_BASE h t) 1 r₁ t₂
   fields_read q e w k = finished (partly_of fields_partly q) (omega arith) refl refl e w k
 
 -- a path with perhaps `[ list of types ]`
 module _ (l : Limits) {s : List ℕ} {h : Here} {t : List ℕ} {r : Read} {t₁ : List ℕ} (g : Stands s h) (m : T (one_of (word_of h) path_items)) (u : Anyhow s PATH h t 2 r t₁) where
-  pub base_refused : {e : Refusal} → r ≡ Refused e → Answers (the s (counts l) TYPE-BASE h t) 1 r t₁
+  pub base_refused : {e : Refusal} → r ≡ Refused e → Answers (the s (counts l) TYPE_BASE h t) 1 r t₁
   unfolding inside
   base_refused q = relays (begins_on type_base_path_on g m) refl (u (counts l)) q
 
   module _ {x : Node} {z : Here} (q : r ≡ Done x z) where
-    pub base_read : Going (the s (counts l) TYPE-BASE h t) (at (counts l) (a TYPE-BRACKETS ∷ []) ∷ []) z t₁ (lone x.kind x.start x.end) 0 2
+    pub base_read : Going (the s (counts l) TYPE_BASE h t) (at (counts l) (a TYPE_BRACKETS ∷ []) ∷ []) z t₁ (lone x.kind x.start x.end) 0 2
     unfolding inside
     base_read = reads_one (begins_on type_base_path_on g m) refl refl (whole_of (u (counts l)) q)
 
-    pub base_alone : {b : Row} {r₁ : Read} {t₂ : List ℕ} → (word_of z ≡ 44 → ⊥) → b ≡ plain_row kinds.PATH-TYPE x.start x.end 1 → r₁ ≡ Done (node_of b) (later z) → t₂ ≡ put_over t₁ z b h.rows → Answers (the s (counts l) TYPE-BASE h t) 1 r₁ t₂
+    pub base_alone : {b : Row} {r₁ : Read} {t₂ : List ℕ} → (word_of z ≡ 44 → ⊥) → b ≡ plain_row kinds.PATH_TYPE x.start x.end 1 → r₁ ≡ Done (node_of b) (later z) → t₂ ≡ put_over t₁ z b h.rows → Answers (the s (counts l) TYPE_BASE h t) 1 r₁ t₂
     base_alone n e w k = finished_in (into_off type_brackets_off refl (λ o. n (the_word o)) base_read) (omega arith) refl refl e w k
 
     module _ {r₁ : Read} {t₂ : List ℕ} (o : word_of z ≡ 44) (v : Listed s z t₁ l 44 TYPES 45 r₁ t₂) where
-      bracketed : Partly (the s (counts l) TYPE-BASE h t) r₁ t₂ (λ y i. Going (the s (counts l) TYPE-BASE h t) (at (after plain (counts l)) (part ∷ row kinds.PATH-TYPE ∷ []) ∷ at (counts l) [] ∷ []) i t₂ (many x.start y.end (y.children + 1) (some 44)) 0 6)
+      bracketed : Partly (the s (counts l) TYPE_BASE h t) r₁ t₂ (λ y i. Going (the s (counts l) TYPE_BASE h t) (at (after plain (counts l)) (part ∷ row kinds.PATH_TYPE ∷ []) ∷ at (counts l) [] ∷ []) i t₂ (many x.start y.end (y.children + 1) (some 44)) 0 6)
       unfolding inside
-      bracketed = v (the s (counts l) TYPE-BASE h t) (counts l) (part ∷ row kinds.PATH-TYPE ∷ []) (at (counts l) [] ∷ []) (lone x.kind x.start x.end) 0 2 refl (alike_counts l) (into_on type_brackets_on refl (is_word o) base_read)
+      bracketed = v (the s (counts l) TYPE_BASE h t) (counts l) (part ∷ row kinds.PATH_TYPE ∷ []) (at (counts l) [] ∷ []) (lone x.kind x.start x.end) 0 2 refl (alike_counts l) (into_on type_brackets_on refl (is_word o) base_read)
 
-      pub brackets_refused : {e : Refusal} → r₁ ≡ Refused e → Answers (the s (counts l) TYPE-BASE h t) 1 r₁ t₂
+      pub brackets_refused : {e : Refusal} → r₁ ≡ Refused e → Answers (the s (counts l) TYPE_BASE h t) 1 r₁ t₂
       brackets_refused p = stops_answer bracketed p
 
-      pub brackets_read : {y : Node} {i : Here} → r₁ ≡ Done y i → Going (the s (counts l) TYPE-BASE h t) (at (after plain (counts l)) (row kinds.PATH-TYPE ∷ []) ∷ at (counts l) [] ∷ []) i t₂ (many x.start y.end (y.children + 1) (some 44)) 1 6
+      pub brackets_read : {y : Node} {i : Here} → r₁ ≡ Done y i → Going (the s (counts l) TYPE_BASE h t) (at (after plain (counts l)) (row kinds.PATH_TYPE ∷ []) ∷ at (counts l) [] ∷ []) i t₂ (many x.start y.end (y.children + 1) (some 44)) 1 6
       brackets_read p = parts (partly_of bracketed p)
 
-      pub brackets_ended : {y : Node} {i : Here} {b : Row} {r₂ : Read} {t₃ : List ℕ} → r₁ ≡ Done y i → b ≡ record { kind = kinds.PATH-TYPE; start = x.start; end = y.end; children = y.children + 1; value = 1; detail = 0 } → r₂ ≡ Done (node_of b) (later i) → t₃ ≡ put_over t₂ i b h.rows → Answers (the s (counts l) TYPE-BASE h t) 1 r₂ t₃
+      pub brackets_ended : {y : Node} {i : Here} {b : Row} {r₂ : Read} {t₃ : List ℕ} → r₁ ≡ Done y i → b ≡ record { kind = kinds.PATH_TYPE; start = x.start; end = y.end; children = y.children + 1; value = 1; detail = 0 } → r₂ ≡ Done (node_of b) (later i) → t₃ ≡ put_over t₂ i b h.rows → Answers (the s (counts l) TYPE_BASE h t) 1 r₂ t₃
       brackets_ended p e w k = finished_in (brackets_read p) (omega arith) refl refl e w k
 
 -- no type begins there
-pub no_type : {s : List ℕ} {d : Counts} {h : Here} {t : List ℕ} {r : Read} → Stands s h → (word_of h ≡ 52 → ⊥) → (word_of h ≡ 42 → ⊥) → (word_of h ≡ 40 → ⊥) → (T (one_of (word_of h) path_items) → ⊥) → r ≡ unused h → Answers (the s d TYPE-BASE h t) 1 r t
+pub no_type : {s : List ℕ} {d : Counts} {h : Here} {t : List ℕ} {r : Read} → Stands s h → (word_of h ≡ 52 → ⊥) → (word_of h ≡ 42 → ⊥) → (word_of h ≡ 40 → ⊥) → (T (one_of (word_of h) path_items) → ⊥) → r ≡ unused h → Answers (the s d TYPE_BASE h t) 1 r t
 no_type {h = h} g i j k l e = none_fits type_base_off g (not_first (word_of h) 52 (42 ∷ 40 ∷ path_items) i (not_first (word_of h) 42 (40 ∷ path_items) j (not_first (word_of h) 40 path_items k l))) e
 
 -- a type so far: its base, and the `?` behind it
 pub record Marked (f : Phrase) (m : Node) (h : Here) (t : List ℕ) : Type 0 where
   pub counts : Counts
-  pub going : Going f (at counts (a TYPE-MARKS ∷ []) ∷ []) h t (lone m.kind m.start m.end) 0 1
+  pub going : Going f (at counts (a TYPE_MARKS ∷ []) ∷ []) h t (lone m.kind m.start m.end) 0 1
 
 abbrev pub Marks : List ℕ → ℕ → Node → Here → List ℕ → Node → Here → List ℕ → Type 0
 Marks s since m₀ h₀ t₀ m h t = (f : Phrase) → f.text ≡ s → f.from.rows ≡ since → Marked f m₀ h₀ t₀ → Marked f m h t
 
-module _ {s : List ℕ} {d : Counts} {h : Here} {t : List ℕ} {r : Read} {t₁ : List ℕ} (g : Stands s h) (u : Answers (the s d TYPE-BASE h t) 1 r t₁) where
+module _ {s : List ℕ} {d : Counts} {h : Here} {t : List ℕ} {r : Read} {t₁ : List ℕ} (g : Stands s h) (u : Answers (the s d TYPE_BASE h t) 1 r t₁) where
   pub type_begins : {m : Node} {z : Here} → r ≡ Done m z → Marked (the s d TYPE h t) m z t₁
   unfolding inside
   type_begins q = record { counts = d; going = reads_one (begins_any type_any g) refl refl (whole_of u q) }
@@ -124,7 +122,7 @@ type_marks {f} {since} {m} {m'} {h} {h'} {s} {t} {t'} i n g o u p q =
     let c : Counts = after plain g.counts in
     record {
       counts = c;
-      going = subst (λ (x : Node). Going f (at c (a TYPE-MARKS ∷ []) ∷ []) h' t' (lone x.kind x.start x.end) 0 1) e.0 (subst (λ (x : Here). Going f (at c (a TYPE-MARKS ∷ []) ∷ []) x t' (lone 5 m.start (end_of h)) 0 1) e.1 (fewer {k = 4} 1 (omega arith) (last (writes (takes (into_on type_marks_on refl (is_word o) g.going) tt (is_word o) tt refl) refl refl refl refl (put_behind f.text h t b f.from.rows (put_since _ h _ n p))))));
+      going = subst (λ (x : Node). Going f (at c (a TYPE_MARKS ∷ []) ∷ []) h' t' (lone x.kind x.start x.end) 0 1) e.0 (subst (λ (x : Here). Going f (at c (a TYPE_MARKS ∷ []) ∷ []) x t' (lone 5 m.start (end_of h)) 0 1) e.1 (fewer {k = 4} 1 (omega arith) (last (writes (takes (into_on type_marks_on refl (is_word o) g.going) tt (is_word o) tt refl) refl refl refl refl (put_behind f.text h t b f.from.rows (put_since _ h _ n p))))));
     }
 
 pub type_ends : {f : Phrase} {m : Node} {h : Here} {t : List ℕ} {r : Read} → Marked f m h t → (word_of h ≡ 51 → ⊥) → r ≡ Done m h → Answers f 1 r t
@@ -141,37 +139,37 @@ mark_falls {f} g o u q =
 
 -- `name : type`
 module _ (l : Limits) {s : List ℕ} {h : Here} {t : List ℕ} {r : Read} {t₁ : List ℕ} (g : Stands s h) (u : Anyhow s NAME h t 3 r t₁) where
-  pub name_refused : {e : Refusal} → r ≡ Refused e → Answers (the s (counts l) TYPED-NAME h t) 1 r t₁
+  pub name_refused : {e : Refusal} → r ≡ Refused e → Answers (the s (counts l) TYPED_NAME h t) 1 r t₁
   unfolding inside
   name_refused q = relays (begins_any typed_name_any g) refl (u (counts l)) q
 
   module _ {x : Node} {z : Here} (q : r ≡ Done x z) {r₁ : Read} (v : r₁ ≡ expected s z 46) where
-    name_read : Going (the s (counts l) TYPED-NAME h t) (at (counts l) (word ':' ∷ a TYPE ∷ row kinds.TYPED-NAME ∷ []) ∷ []) z t₁ (lone x.kind x.start x.end) 0 3
+    name_read : Going (the s (counts l) TYPED_NAME h t) (at (counts l) (word ':' ∷ a TYPE ∷ row kinds.TYPED_NAME ∷ []) ∷ []) z t₁ (lone x.kind x.start x.end) 0 3
     unfolding inside
     name_read = reads_one (begins_any typed_name_any g) refl refl (whole_of (u (counts l)) q)
 
-    pub colon_missed : {e : Refusal} → r₁ ≡ Refused e → Answers (the s (counts l) TYPED-NAME h t) 1 r₁ t₁
+    pub colon_missed : {e : Refusal} → r₁ ≡ Refused e → Answers (the s (counts l) TYPED_NAME h t) 1 r₁ t₁
     colon_missed p = stopped p (misses 46 name_read tt v p)
 
     module _ {y : Node} {i : Here} (p : r₁ ≡ Done y i) where
-      pub colon_read : Going (the s (counts l) TYPED-NAME h t) (at (after plain (counts l)) (a TYPE ∷ row kinds.TYPED-NAME ∷ []) ∷ []) i t₁ (many x.start y.end 1 (some 46)) 0 7
+      pub colon_read : Going (the s (counts l) TYPED_NAME h t) (at (after plain (counts l)) (a TYPE ∷ row kinds.TYPED_NAME ∷ []) ∷ []) i t₁ (many x.start y.end 1 (some 46)) 0 7
       colon_read = expects 46 name_read tt v p
 
       module _ {l' : Limits} {r₂ : Read} {t₂ : List ℕ} (e : l' ≡ plainly l) (w : Answers (the s (counts l') TYPE i t₁) 1 r₂ t₂) where
-        pub typed_refused : {o : Refusal} → r₂ ≡ Refused o → Answers (the s (counts l) TYPED-NAME h t) 1 r₂ t₂
+        pub typed_refused : {o : Refusal} → r₂ ≡ Refused o → Answers (the s (counts l) TYPED_NAME h t) 1 r₂ t₂
         unfolding inside
         typed_refused o = relays colon_read refl (behind_plain l e w) o
 
-        pub typed_read : {x₁ : Node} {z₁ : Here} {b : Row} {r₃ : Read} {t₃ : List ℕ} → r₂ ≡ Done x₁ z₁ → b ≡ plain_row kinds.TYPED-NAME x.start x₁.end 2 → r₃ ≡ Done (node_of b) (later z₁) → t₃ ≡ put_over t₂ z₁ b h.rows → Answers (the s (counts l) TYPED-NAME h t) 1 r₃ t₃
+        pub typed_read : {x₁ : Node} {z₁ : Here} {b : Row} {r₃ : Read} {t₃ : List ℕ} → r₂ ≡ Done x₁ z₁ → b ≡ plain_row kinds.TYPED_NAME x.start x₁.end 2 → r₃ ≡ Done (node_of b) (later z₁) → t₃ ≡ put_over t₂ z₁ b h.rows → Answers (the s (counts l) TYPED_NAME h t) 1 r₃ t₃
         unfolding inside
         typed_read o b k j = finished (reads_one colon_read refl refl (whole_of (behind_plain l e w) o)) (omega arith) refl refl b k j
 
 -- perhaps a sign and a type: what is computed of either sign
 module _ {n sign : ℕ} (u : TypeSign n sign) where
-  signs : (P : ℕ → ℕ → Type 0) → P RESULT 27 → P LET-TYPE 46 → P n sign
+  signs : (P : ℕ → ℕ → Type 0) → P RESULT 27 → P LET_TYPE 46 → P n sign
   signs P x y = elim u [
     | inl q ↦ subst (λ (i : ℕ). P i sign) (sym q.0) (subst (λ (i : ℕ). P RESULT i) (sym q.1) x)
-    | inr q ↦ subst (λ (i : ℕ). P i sign) (sym q.0) (subst (λ (i : ℕ). P LET-TYPE i) (sym q.1) y)
+    | inr q ↦ subst (λ (i : ℕ). P i sign) (sym q.0) (subst (λ (i : ℕ). P LET_TYPE i) (sym q.1) y)
   ]
 
   sign_on : On n (some (word sign ∷ a TYPE ∷ part ∷ [])) (sign ∷ [])
@@ -221,7 +219,7 @@ module _ (l : Limits) {s : List ℕ} {h : Here} {t : List ℕ} {r : Read} {t₁ 
   variant = word_row (begins_any variant_any g) tt refl refl (omega arith) m refl refl u (put_behind s h t (item_row h) h.rows p)
 
   module _ {x : Node} {z : Here} (q : r ≡ Done x z) where
-    pub variant_read : Going (the s (counts l) PATTERN h t) (at (counts l) (a VARIANT-NAMES ∷ []) ∷ []) z t₁ (lone x.kind x.start x.end) 0 3
+    pub variant_read : Going (the s (counts l) PATTERN h t) (at (counts l) (a VARIANT_NAMES ∷ []) ∷ []) z t₁ (lone x.kind x.start x.end) 0 3
     unfolding inside
     variant_read = reads_one (begins_on pattern_variant_on g (is_word m)) refl refl (whole_of variant q)
 

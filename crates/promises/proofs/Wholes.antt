@@ -1,5 +1,5 @@
 -- What is followed without a tally: a literal, whose row its token gives; a whole source.
-use Rattle.rows.specs.Kinds.{kinds}
+use Rattle.rows.specs.Kinds as kinds
 use Rattle.tokens.specs.Words.{code_of}
 use mathlib.Core.Path.{◌≡◌, refl, sym, ap, subst, ◌∙◌}
 use mathlib.Core.List.{List, [], ◌∷◌}
@@ -19,11 +19,11 @@ use Rattle.rows.specs.Rows.{put_row}
 use Rattle.values.specs.declared.Literal.{Literal}
 use Rattle.values.specs.Literals.{literal_of, literal_at}
 use Rattle.values.proofs.Literals.{text_fits}
-use Rattle.grammar.specs.Words.{literals, filter_words, words}
+use Rattle.grammar.specs.Words.{literals, 'const', 'fn', 'import', 'test', filter_words}
 use Rattle.grammar.specs.Grammar.{same, Token, one_of}
 use Rattle.grammar.specs.Limits.{Counts, zeros, inside, kept}
 use Rattle.grammar.specs.Table.{a}
-use Rattle.grammar.specs.Kinds.{records, phrases}
+use Rattle.grammar.specs.Kinds.{records, TREE, DECLARATIONS, DECLARATION, EXPR, LITERAL}
 use Rattle.grammar.specs.Rows.{Item, own, count, sizes, Draft, blank, take_note, row_of, literal_of_lem, tree_row, rows_from}
 use Rattle.grammar.specs.Rows as grammar
 use Rattle.grammar.specs.Refusals.{Why, want, amiss, said}
@@ -56,8 +56,6 @@ use Rattle.promises.specs.Promises.{the, FinishedIs, Finished}
 use Rattle.promises.proofs.Alternatives.{literal_is, literal_any, tree_is, tree_any, declarations_is, declarations_on, declarations_off}
 use Rattle.promises.proofs.Answered.{kept_either}
 use Rattle.promises.proofs.Leaves.{row_is as written}
-open words use {'const', 'fn', 'import', 'test'}
-open phrases use {TREE, DECLARATIONS, DECLARATION, EXPR, LITERAL}
 
 -- a literal: its row is what its token says
 abbrev span_row : ℕ → ℕ → ℕ → ℕ → ℕ → Row

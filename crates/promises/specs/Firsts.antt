@@ -1,8 +1,8 @@
 -- The words that a choice is made by, and the rows whose detail a word gives.
 use Rattle.std.specs.Prelude.{List, [], ◌∷◌, ◌++◌, Bool, true, false, not, cond, ◌≢◌, ℕ, ◌<◌, eqb}
-use Rattle.rows.specs.Kinds.{kinds}
+use Rattle.rows.specs.Kinds as kinds
 use Rattle.rows.specs.declared.Row.{Row}
-use Rattle.grammar.specs.Words.{path_items, literals, four_words, compare_signs, sum_signs, product_signs, return_words, filter_words, words}
+use Rattle.grammar.specs.Words.{f_quote, open_brace, close_brace, open_paren, close_paren, '!', '-', dot, '?', 'import', 'let', 'const', 'fn', 'test', comma, '||', '&&', path_items, literals, four_words, compare_signs, sum_signs, product_signs, return_words, filter_words}
 use Rattle.grammar.specs.Grammar.{one_of}
 use Rattle.grammar.specs.Rows.{detail_for}
 use Rattle.parser.specs.declared.Here.{Here}
@@ -12,17 +12,16 @@ use Rattle.parser.specs.declared.Read.TheVariants.{Done, Refused}
 use Rattle.parser.specs.declared.Stmt.{Stmt}
 use Rattle.parser.specs.declared.Arm.{Arm}
 use Rattle.parser.specs.Places.{word_of, next_of, passed, later, node_of, put_over}
-open words use {f-quote, open-brace, close-brace, open-paren, close-paren, '!', '-', dot, '?', 'import', 'let', 'const', 'fn', 'test', comma, '||', '&&'}
 
 -- what an operand, an expr, a type, a statement, a declaration can begin with
 abbrev pub operand_firsts : List ℕ
-operand_firsts = '!' ∷ '-' ∷ open-paren ∷ open-brace ∷ f-quote ∷ (literals ++ (path_items ++ four_words))
+operand_firsts = '!' ∷ '-' ∷ open_paren ∷ open_brace ∷ f_quote ∷ (literals ++ (path_items ++ four_words))
 
 abbrev pub expr_firsts : List ℕ
 expr_firsts = return_words ++ operand_firsts
 
 abbrev pub type_firsts : List ℕ
-type_firsts = '!' ∷ open-paren ∷ open-brace ∷ path_items
+type_firsts = '!' ∷ open_paren ∷ open_brace ∷ path_items
 
 abbrev pub statement_firsts : List ℕ
 statement_firsts = 'import' ∷ 'let' ∷ expr_firsts
@@ -40,7 +39,7 @@ abbrev pub sign_words : List ℕ
 sign_words = '!' ∷ '-' ∷ []
 
 abbrev pub postfix_signs : List ℕ
-postfix_signs = '?' ∷ open-paren ∷ dot ∷ []
+postfix_signs = '?' ∷ open_paren ∷ dot ∷ []
 
 -- "Binary, loosest first: `||`; `&&`; `== != < <= > >=`, not chained; `+ -`; `* / %`": its level, 0 for no such sign
 abbrev pub level_of : ℕ → ℕ
@@ -52,7 +51,7 @@ ends_return w true = not (one_of w expr_firsts)
 ends_return w false = false
 
 abbrev pub closing_of : ℕ → ℕ
-closing_of w = cond (eqb w open-paren) close-paren close-brace
+closing_of w = cond (eqb w open_paren) close_paren close_brace
 
 abbrev pub sign_kind : ℕ → ℕ
 sign_kind w = cond (eqb w '!') kinds.NOT kinds.NEGATE
@@ -92,7 +91,7 @@ last_arm (Refused e) = Arm.Refused e
 
 -- behind an arm whose body begins with a word: another may follow behind a comma, and behind a block
 abbrev pub arm_end : List ℕ → Here → ℕ → Arm
-arm_end s h begin = cond (eqb (word_of h) comma) (Arm.Followed (passed s h)) (cond (eqb begin open-brace) (Arm.Followed h) (Arm.Last h))
+arm_end s h begin = cond (eqb (word_of h) comma) (Arm.Followed (passed s h)) (cond (eqb begin open_brace) (Arm.Followed h) (Arm.Last h))
 
 -- no `.` stands behind what was read
 abbrev pub undotted : Read → Type 0

@@ -4,14 +4,14 @@
 -- before, r the answer and t' the table behind it.
 use Rattle.std.specs.Prelude.{◌≡◌, List, [], ◌∷◌, Bool, cond, ◌⊎◌, ◌≢◌, ℕ, zero, suc, ◌+◌, ◌≤◌, ◌<◌, T, eqb, ltb, length, get_or}
 use Rattle.std.proofs.Math.Option.{Option, some}
-use Rattle.rows.specs.Kinds.{kinds}
+use Rattle.rows.specs.Kinds as kinds
 use Rattle.tokens.specs.declared.Refusal.{Refusal}
 use Rattle.rows.specs.declared.Row.{Row}
-use Rattle.grammar.specs.Words.{names, words}
+use Rattle.grammar.specs.Words.{open_brace, close_brace, 'in', dot, ':', semicolon, '->', names}
 use Rattle.grammar.specs.Grammar.{plain, closes_bracket, body, Symbol, one_of}
 use Rattle.grammar.specs.Limits.{Counts, after, inside}
 use Rattle.grammar.specs.Table.{a, behind, row, part, opens, closes}
-use Rattle.grammar.specs.Kinds.{no_records, phrases}
+use Rattle.grammar.specs.Kinds.{no_records, NAME, RESULT, LET_TYPE, IMPORTPATH_DOT, STATEMENTS, STATEMENT, AFTER_FOUR, AFTER_EXPR, FIELDS, FIELDS_MORE, FIELD, ELSE, ELSE_PART, BLOCK, ARMS, ARM_BODY, ARM_COMMA, ARM_NEXT, GUARD, EXPR, BINARY, AND, COMPARE, SUM, PRODUCT, OPERAND, POSTFIX, AFTER_PATH}
 use Rattle.grammar.specs.Rows as grammar
 use Rattle.grammar.specs.Answers.{accepted, refused}
 use Rattle.grammar.specs.Answers as answers
@@ -31,8 +31,6 @@ use Rattle.parser.specs.Going.{Stands, store, Tally, bare, lone, many, with_node
 use Rattle.parser.proofs.Standing.{lexed}
 use Rattle.parser.proofs.Going.{at}
 use Rattle.parser.proofs.Sides.{Around}
-open words use {open-brace, close-brace, 'in', dot, ':', semicolon, '->'}
-open phrases use {NAME, RESULT, LET-TYPE, IMPORTPATH-DOT, STATEMENTS, STATEMENT, AFTER-FOUR, AFTER-EXPR, FIELDS, FIELDS-MORE, FIELD, ELSE, ELSE-PART, BLOCK, ARMS, ARM-BODY, ARM-COMMA, ARM-NEXT, GUARD, EXPR, BINARY, AND, COMPARE, SUM, PRODUCT, OPERAND, POSTFIX, AFTER-PATH}
 
 -- The phrase of kind n from where a reader stands.
 abbrev pub the : List ℕ → Counts → ℕ → Here → List ℕ → Phrase
@@ -86,7 +84,7 @@ pub record Perhaps (f : Phrase) (ks : List Left) (a c k n : ℕ) (h : Here) (t :
   pub going : Going f ks h t (many a end (c + n) sign) n k
 
 abbrev pub TypeSign : ℕ → ℕ → Type 0
-TypeSign n sign = ((n ≡ RESULT) × (sign ≡ '->')) ⊎ ((n ≡ LET-TYPE) × (sign ≡ ':'))
+TypeSign n sign = ((n ≡ RESULT) × (sign ≡ '->')) ⊎ ((n ≡ LET_TYPE) × (sign ≡ ':'))
 
 abbrev pub Typing : List ℕ → Here → List ℕ → Limits → ℕ → Read → List ℕ → Type 0
 Typing s h t l sign r t' =
@@ -104,7 +102,7 @@ Guarded s h t l r t' =
 abbrev pub Grouped : List ℕ → Here → List ℕ → Limits → ℕ → ℕ → ℕ → Read → List ℕ → Type 0
 Grouped s h t l start items since r t' =
     (f : Phrase) (d : Counts) (e : ℕ) (w : Option ℕ) → f.text ≡ s → f.from.rows ≡ since → Alike d l
-    → Going f (at d (a IMPORTPATH-DOT ∷ []) ∷ at f.counts (row kinds.IMPORT-PATH ∷ []) ∷ []) h t (many start e items w) 0 3
+    → Going f (at d (a IMPORTPATH_DOT ∷ []) ∷ at f.counts (row kinds.IMPORT_PATH ∷ []) ∷ []) h t (many start e items w) 0 3
     → Answers f 2 r t'
 
 -- The kind of phrase whose signs have this level, 1 `||` to 5 `* / %`; beyond that an operand.
@@ -123,7 +121,7 @@ pub record Postfixed (f : Phrase) (l : Limits) (b : Bool) (m : Node) (h : Here) 
   pub at_counts : Counts
   pub alike : Alike at_counts l
   pub going : Going f (at at_counts (a (POSTFIX b) ∷ []) ∷ []) h t (lone m.kind m.start m.end) 0 1
-      ⊎ (Going f (at at_counts (a (AFTER-PATH b) ∷ []) ∷ []) h t (lone m.kind m.start m.end) 0 1 × (word_of h ≢ dot) × (T b → word_of h ≢ open-brace))
+      ⊎ (Going f (at at_counts (a (AFTER_PATH b) ∷ []) ∷ []) h t (lone m.kind m.start m.end) 0 1 × (word_of h ≢ dot) × (T b → word_of h ≢ open_brace))
 
 abbrev pub Atom : List ℕ → Here → List ℕ → Limits → Bool → Read → List ℕ → Type 0
 Atom s h t l b r t' = Partly (the s (counts l) (OPERAND b) h t) r t' (λ m h'. Postfixed (the s (counts l) (OPERAND b) h t) l b m h' t')
@@ -142,8 +140,8 @@ fields_tail (suc n) ss = part ∷ row kinds.RECORD ∷ ss
 abbrev pub Fielded : List ℕ → Here → List ℕ → Limits → ℕ → ℕ → ℕ → Read → List ℕ → Type 0
 Fielded s h t l start paths since r t' =
     (f : Phrase) (d : Counts) (ss : List Symbol) (ks : List Left) (e k : ℕ) (w : Option ℕ) → f.text ≡ s → f.from.rows ≡ since → d ≡ counts l
-    → Going f (at d (a FIELDS ∷ closes close-brace ∷ fields_tail paths ss) ∷ ks) h t (many start e paths w) 0 k
-    ⊎ (Going f (at d (a FIELD ∷ a FIELDS-MORE ∷ closes close-brace ∷ fields_tail paths ss) ∷ ks) h t (many start e paths w) 0 k × T (one_of (word_of h) names))
+    → Going f (at d (a FIELDS ∷ closes close_brace ∷ fields_tail paths ss) ∷ ks) h t (many start e paths w) 0 k
+    ⊎ (Going f (at d (a FIELD ∷ a FIELDS_MORE ∷ closes close_brace ∷ fields_tail paths ss) ∷ ks) h t (many start e paths w) 0 k × T (one_of (word_of h) names))
     → Partly f r t' (λ m h'. Going f (at (after closes_bracket d) ss ∷ ks) h' t' (lone m.kind m.start m.end) 0 k)
 
 -- The rows of n phrases that each end with the next, over the answer of the innermost: kind k, c children, and by its
@@ -172,7 +170,7 @@ abbrev pub after_if : List Symbol
 after_if = a (EXPR no_records) ∷ behind BLOCK ∷ behind ELSE ∷ row kinds.IF ∷ []
 
 abbrev pub after_match : List Symbol
-after_match = a (EXPR no_records) ∷ opens open-brace ∷ behind ARMS ∷ closes close-brace ∷ row kinds.MATCH ∷ []
+after_match = a (EXPR no_records) ∷ opens open_brace ∷ behind ARMS ∷ closes close_brace ∷ row kinds.MATCH ∷ []
 
 -- `name in` behind a `for`: the name, and behind it the word.
 pub record NamedIn (s : List ℕ) (h : Here) (t : List ℕ) (r : Read) (t' : List ℕ) : Type 0 where
@@ -191,7 +189,7 @@ Tested s h t l r t' =
 abbrev pub Elsed : List ℕ → Here → List ℕ → Limits → ℕ → ℕ → Read → List ℕ → Type 0
 Elsed s h t l start since r t' =
     (f : Phrase) (d : Counts) (e w k : ℕ) → f.text ≡ s → f.from.rows ≡ since
-    → Going f (at (counts l) (a ELSE-PART ∷ []) ∷ at d (row kinds.IF ∷ []) ∷ []) h t (many start e 2 (some w)) 0 (k + 4)
+    → Going f (at (counts l) (a ELSE_PART ∷ []) ∷ at d (row kinds.IF ∷ []) ∷ []) h t (many start e 2 (some w)) 0 (k + 4)
     → Answers f 1 r t'
 
 abbrev pub linked : List ℕ → Here → Limits → Read
@@ -201,7 +199,7 @@ linked s h l = under s h (cond (eqb l.chain 0) 0 l.heads)
 abbrev pub Matched : List ℕ → Here → List ℕ → Limits → ℕ → ℕ → Read → List ℕ → Type 0
 Matched s h t l start since r t' =
     (f : Phrase) (d : Counts) (e : ℕ) (w : Option ℕ) → f.text ≡ s → f.from.rows ≡ since → inside body d ≡ counts l
-    → Going f (at d (behind ARMS ∷ closes close-brace ∷ row kinds.MATCH ∷ []) ∷ []) h t (many start e 1 w) 0 1
+    → Going f (at d (behind ARMS ∷ closes close_brace ∷ row kinds.MATCH ∷ []) ∷ []) h t (many start e 1 w) 0 1
     → Answers f 1 r t'
 
 pub record Armed (f : Phrase) (ks : List Left) (h : Here) (t : List ℕ) : Type 0 where
@@ -219,15 +217,15 @@ pub record OneArm (f : Phrase) (r : Arm) (t : List ℕ) : Type 0 where
 abbrev pub Bodied : List ℕ → Here → List ℕ → Limits → Read → List ℕ → Type 0
 Bodied s h t l r t' =
     (f : Phrase) (d : Counts) (ks : List Left) (y : Tally) (v k : ℕ) → f.text ≡ s → d ≡ counts l
-    → Going f (at d (a ARM-BODY ∷ []) ∷ ks) h t y v k
-    → Partly f r t' (λ m h'. (word_of h ≡ open-brace → Going f (at d (row kinds.ARM ∷ a ARM-COMMA ∷ a ARMS ∷ []) ∷ at d [] ∷ ks) h' t' (with_node y m) v (k + 1)) × (word_of h ≢ open-brace → Going f (at d (row kinds.ARM ∷ a ARM-NEXT ∷ []) ∷ at d [] ∷ ks) h' t' (with_node y m) v (k + 1)))
+    → Going f (at d (a ARM_BODY ∷ []) ∷ ks) h t y v k
+    → Partly f r t' (λ m h'. (word_of h ≡ open_brace → Going f (at d (row kinds.ARM ∷ a ARM_COMMA ∷ a ARMS ∷ []) ∷ at d [] ∷ ks) h' t' (with_node y m) v (k + 1)) × (word_of h ≢ open_brace → Going f (at d (row kinds.ARM ∷ a ARM_NEXT ∷ []) ∷ at d [] ∷ ks) h' t' (with_node y m) v (k + 1)))
 
 -- The statements of a block, from behind its `{` to its end. One statement, and how it ended: with its `;`, as an `if`,
 -- `while`, `for` or `match` without `;`, as another expr without `;`, which is the last.
 abbrev pub Stated : List ℕ → Here → List ℕ → Limits → ℕ → Read → List ℕ → Type 0
 Stated s h t l start r t' =
     (f : Phrase) (d : Counts) (ks : List Left) (e k : ℕ) (w : Option ℕ) → f.text ≡ s → d ≡ counts l
-    → Going f (at d (a STATEMENTS ∷ closes close-brace ∷ row kinds.BLOCK ∷ []) ∷ ks) h t (many start e 0 w) 0 k
+    → Going f (at d (a STATEMENTS ∷ closes close_brace ∷ row kinds.BLOCK ∷ []) ∷ ks) h t (many start e 0 w) 0 k
     → Partly f r t' (λ m h'. Going f (at (after closes_bracket d) [] ∷ ks) h' t' (lone m.kind m.start m.end) 0 k)
 
 pub record Ended (f : Phrase) (d : Counts) (ks : List Left) (x c k n : ℕ) (h : Here) (t : List ℕ) : Type 0 where
@@ -237,8 +235,8 @@ pub record Ended (f : Phrase) (d : Counts) (ks : List Left) (x c k n : ℕ) (h :
 
 abbrev pub StatementIs : Phrase → Counts → List Left → ℕ → ℕ → ℕ → Stmt → List ℕ → Type 0
 StatementIs f d ks x c k (Stmt.Ended h) t = Ended f d ks x c k STATEMENTS h t
-StatementIs f d ks x c k (Stmt.Four h) t = Ended f d ks x c k AFTER-FOUR h t × (word_of h ≢ semicolon)
-StatementIs f d ks x c k (Stmt.Last h) t = Ended f d ks x c k AFTER-EXPR h t × (word_of h ≢ semicolon)
+StatementIs f d ks x c k (Stmt.Four h) t = Ended f d ks x c k AFTER_FOUR h t × (word_of h ≢ semicolon)
+StatementIs f d ks x c k (Stmt.Last h) t = Ended f d ks x c k AFTER_EXPR h t × (word_of h ≢ semicolon)
 StatementIs f d ks x c k (Stmt.Refused e) t = Stopped f e t
 
 pub record OneStatement (f : Phrase) (d : Counts) (ks : List Left) (x c k : ℕ) (r : Stmt) (t : List ℕ) : Type 0 where

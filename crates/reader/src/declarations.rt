@@ -1,10 +1,10 @@
 // Declarations.
 ghost use Rattle.std.specs.Prelude.{◌≡◌, T};
-ghost use Rattle.rows.specs.Kinds.{kinds};
-ghost use Rattle.grammar.specs.Words.{filter_words, words};
+ghost use Rattle.rows.specs.Kinds as kinds;
+ghost use Rattle.grammar.specs.Words.{'const', 'fn', 'test', filter_words};
 ghost use Rattle.grammar.specs.Grammar.{one_of};
 ghost use Rattle.grammar.specs.Rows.{detail_for};
-ghost use Rattle.grammar.specs.Kinds.{phrases};
+ghost use Rattle.grammar.specs.Kinds.{DECLARATION};
 ghost use Rattle.parser.specs.Places.{word_of};
 ghost use Rattle.parser.specs.Counted.{counts};
 ghost use Rattle.parser.specs.Going.{Stands, Answers};
@@ -21,8 +21,8 @@ use tokens::word;
 
 // `const name : type = expr ;`
 fn constant(s: &[u8], table: &mut [u64], here: Here, limits: Limits) -> Read
-    requires { (Stands s.now here) × (word_of here ≡ words.'const') }
-    ensures { Answers (the s.now (counts limits) phrases.DECLARATION here table.old) 1 result table.new }
+    requires { (Stands s.now here) × (word_of here ≡ 'const') }
+    ensures { Answers (the s.now (counts limits) DECLARATION here table.old) 1 result table.new }
 {
     let after = limits.plain();
     let r = take(s, here);
@@ -63,8 +63,8 @@ fn constant(s: &[u8], table: &mut [u64], here: Here, limits: Limits) -> Read
 
 // `fn name (params) [-> type] block`
 fn function(s: &[u8], table: &mut [u64], here: Here, limits: Limits) -> Read
-    requires { (Stands s.now here) × (word_of here ≡ words.'fn') }
-    ensures { Answers (the s.now (counts limits) phrases.DECLARATION here table.old) 1 result table.new }
+    requires { (Stands s.now here) × (word_of here ≡ 'fn') }
+    ensures { Answers (the s.now (counts limits) DECLARATION here table.old) 1 result table.new }
 {
     let after = limits.plain();
     let r = take(s, here);
@@ -100,7 +100,7 @@ fn function(s: &[u8], table: &mut [u64], here: Here, limits: Limits) -> Read
 // `filter` or `filtermap name (params) block`
 fn filter_map(s: &[u8], table: &mut [u64], here: Here, limits: Limits) -> Read
     requires { (Stands s.now here) × (T (one_of (word_of here) filter_words)) }
-    ensures { Answers (the s.now (counts limits) phrases.DECLARATION here table.old) 1 result table.new }
+    ensures { Answers (the s.now (counts limits) DECLARATION here table.old) 1 result table.new }
 {
     let after = limits.plain();
     let r = take(s, here);
@@ -138,8 +138,8 @@ fn filter_detail(word: u64) -> u64
 
 // `test name block`
 fn test(s: &[u8], table: &mut [u64], here: Here, limits: Limits) -> Read
-    requires { (Stands s.now here) × (word_of here ≡ words.'test') }
-    ensures { Answers (the s.now (counts limits) phrases.DECLARATION here table.old) 1 result table.new }
+    requires { (Stands s.now here) × (word_of here ≡ 'test') }
+    ensures { Answers (the s.now (counts limits) DECLARATION here table.old) 1 result table.new }
 {
     let after = limits.plain();
     let r = take(s, here);
@@ -164,7 +164,7 @@ fn test(s: &[u8], table: &mut [u64], here: Here, limits: Limits) -> Read
 
 pub fn declaration(s: &[u8], table: &mut [u64], here: Here, limits: Limits) -> Read
     requires { Stands s.now here }
-    ensures { Answers (the s.now (counts limits) phrases.DECLARATION here table.old) 1 result table.new }
+    ensures { Answers (the s.now (counts limits) DECLARATION here table.old) 1 result table.new }
 {
     let word = here.word();
     match word {

@@ -1,7 +1,7 @@
 // Import paths and imports.
 ghost use Rattle.std.specs.Prelude.{◌≡◌, ◌≤◌};
-ghost use Rattle.grammar.specs.Words.{words};
-ghost use Rattle.grammar.specs.Kinds.{phrases};
+ghost use Rattle.grammar.specs.Words.{open_brace, 'import'};
+ghost use Rattle.grammar.specs.Kinds.{IMPORT, IMPORTED, IMPORTPATH};
 ghost use Rattle.parser.specs.Places.{word_of};
 ghost use Rattle.parser.specs.Counted.{counts};
 ghost use Rattle.parser.specs.Going.{Stands, Answers};
@@ -18,7 +18,7 @@ use words::is_path_item;
 #[cycle(import_group_import_path)]
 fn import_path(s: &[u8], table: &mut [u64], at: Here, limits: Limits) -> Read
     requires { Stands s.now at }
-    ensures { Answers (the s.now (counts limits) phrases.IMPORTPATH at table.old) 2 result table.new }
+    ensures { Answers (the s.now (counts limits) IMPORTPATH at table.old) 2 result table.new }
 {
     let r = path_item(s, table, at);
     let Read::Done(first, next) = r else {
@@ -65,7 +65,7 @@ fn import_group(
     items: u64,
     since: usize,
 ) -> Read
-    requires { (Stands s.now at) × (word_of at ≡ words.open-brace) × (items ≤ at.rows) }
+    requires { (Stands s.now at) × (word_of at ≡ open_brace) × (items ≤ at.rows) }
     ensures { Grouped s.now at table.old limits start items since result table.new }
 {
     let r = open(s, at, word::CURLY_LEFT, limits);
@@ -94,8 +94,8 @@ fn import_group(
 
 // `import importpath ;`
 pub fn import(s: &[u8], table: &mut [u64], here: Here, limits: Limits) -> Read
-    requires { (Stands s.now here) × (word_of here ≡ words.'import') }
-    ensures { Answers (the s.now (counts limits) phrases.IMPORT here table.old) 1 result table.new }
+    requires { (Stands s.now here) × (word_of here ≡ 'import') }
+    ensures { Answers (the s.now (counts limits) IMPORT here table.old) 1 result table.new }
 {
     let r = take(s, here);
     let Read::Done(_, next) = r else {
@@ -114,7 +114,7 @@ pub fn import(s: &[u8], table: &mut [u64], here: Here, limits: Limits) -> Read
 
 fn imported(s: &[u8], table: &mut [u64], here: Here, limits: Limits) -> Read
     requires { Stands s.now here }
-    ensures { Answers (the s.now (counts limits) phrases.IMPORTED here table.old) 1 result table.new }
+    ensures { Answers (the s.now (counts limits) IMPORTED here table.old) 1 result table.new }
 {
     let r = import_path(s, table, here, limits);
     let Read::Done(found, next) = r else {

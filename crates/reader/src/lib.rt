@@ -1,9 +1,9 @@
 // Document 01's parser: from tokens to rows. It follows expr.rs and mod.rs, rule by rule, and is predictive: the word that a
 // reader stands at says which rule it follows, or that none fits. Expressions and blocks, which hold each other, are here.
 ghost use Rattle.std.specs.Prelude.{◌≡◌, true, false, ◌≢◌, ◌+◌, ◌≤◌, ◌<◌, T};
-ghost use Rattle.grammar.specs.Words.{names, path_items, literals, return_words, words};
+ghost use Rattle.grammar.specs.Words.{names, path_items, literals, return_words, f_quote, '!', '-', dot, open_paren, close_paren, 'let', 'if'};
 ghost use Rattle.grammar.specs.Grammar.{one_of};
-ghost use Rattle.grammar.specs.Kinds.{phrases};
+ghost use Rattle.grammar.specs.Kinds.{BLOCK, LET, LITERAL, PARENS, BRACES, FIELD, EXPRS, FOUR, ARM, EXPR, OPERAND, F_STRING};
 ghost use Rattle.parser.specs.Places.{word_of};
 ghost use Rattle.parser.specs.Counted.{counts};
 ghost use Rattle.parser.specs.Going.{Stands, Answers};
@@ -47,7 +47,7 @@ const COMPARISON: u64 = 3;
 #[cycle(access_args_arm_assign_expr_atom_binop_expr_block_body_braces_cond_elses_expr_f_string_factor_field_four_guard_if_else_let_stmt_match_expr_operand_parens_path_expr_postfix_record_return_expr_stmt_stmts)]
 fn expr(s: &[u8], table: &mut [u64], here: Here, limits: Limits, records: bool) -> Read
     requires { Stands s.now here }
-    ensures { Answers (the s.now (counts limits) (phrases.EXPR records) here table.old) 1 result table.new }
+    ensures { Answers (the s.now (counts limits) (EXPR records) here table.old) 1 result table.new }
 {
     if return_detail(here.word()) != 0 {
         return return_expr(s, table, here, limits, records);
@@ -59,7 +59,7 @@ fn expr(s: &[u8], table: &mut [u64], here: Here, limits: Limits, records: bool) 
 #[cycle(access_args_arm_assign_expr_atom_binop_expr_block_body_braces_cond_elses_expr_f_string_factor_field_four_guard_if_else_let_stmt_match_expr_operand_parens_path_expr_postfix_record_return_expr_stmt_stmts)]
 fn assign_expr(s: &[u8], table: &mut [u64], here: Here, limits: Limits, records: bool) -> Read
     requires { (Stands s.now here) × (T (one_of (word_of here) return_words) → ⊥) }
-    ensures { Answers (the s.now (counts limits) (phrases.EXPR records) here table.old) 1 result table.new }
+    ensures { Answers (the s.now (counts limits) (EXPR records) here table.old) 1 result table.new }
 {
     if !can_begin_expr(here.word()) {
         return unusable(here);
@@ -97,7 +97,7 @@ fn assign_expr(s: &[u8], table: &mut [u64], here: Here, limits: Limits, records:
 #[cycle(access_args_arm_assign_expr_atom_binop_expr_block_body_braces_cond_elses_expr_f_string_factor_field_four_guard_if_else_let_stmt_match_expr_operand_parens_path_expr_postfix_record_return_expr_stmt_stmts)]
 fn return_expr(s: &[u8], table: &mut [u64], at: Here, limits: Limits, records: bool) -> Read
     requires { (Stands s.now at) × (T (one_of (word_of at) return_words)) }
-    ensures { Answers (the s.now (counts limits) (phrases.EXPR records) at table.old) 1 result table.new }
+    ensures { Answers (the s.now (counts limits) (EXPR records) at table.old) 1 result table.new }
 {
     let mut starts: [u16; 32] = [0; 32];
     let mut sinces: [u32; 32] = [0; 32];
@@ -222,7 +222,7 @@ fn factor(
 #[cycle(access_args_arm_assign_expr_atom_binop_expr_block_body_braces_cond_elses_expr_f_string_factor_field_four_guard_if_else_let_stmt_match_expr_operand_parens_path_expr_postfix_record_return_expr_stmt_stmts)]
 fn operand(s: &[u8], table: &mut [u64], at: Here, limits: Limits, records: bool) -> Read
     requires { Stands s.now at }
-    ensures { Answers (the s.now (counts limits) (phrases.OPERAND records) at table.old) 1 result table.new }
+    ensures { Answers (the s.now (counts limits) (OPERAND records) at table.old) 1 result table.new }
 {
     let sign = at.word();
     let signed = is_sign(sign);
@@ -264,8 +264,8 @@ fn operand(s: &[u8], table: &mut [u64], at: Here, limits: Limits, records: bool)
 // An atom with any `?`, `( list of exprs )`, `. name`.
 #[cycle(access_args_arm_assign_expr_atom_binop_expr_block_body_braces_cond_elses_expr_f_string_factor_field_four_guard_if_else_let_stmt_match_expr_operand_parens_path_expr_postfix_record_return_expr_stmt_stmts)]
 fn access(s: &[u8], table: &mut [u64], at: Here, limits: Limits, records: bool) -> Read
-    requires { (Stands s.now at) × ((word_of at ≢ words.'!') × (word_of at ≢ words.'-')) }
-    ensures { Answers (the s.now (counts limits) (phrases.OPERAND records) at table.old) 1 result table.new }
+    requires { (Stands s.now at) × ((word_of at ≢ '!') × (word_of at ≢ '-')) }
+    ensures { Answers (the s.now (counts limits) (OPERAND records) at table.old) 1 result table.new }
 {
     let r = atom(s, table, at, limits, records);
     let Read::Done(first, next) = r else {
@@ -315,7 +315,7 @@ fn postfix(
 }
 
 fn field_access(s: &[u8], table: &mut [u64], left: Node, here: Here, since: usize) -> Read
-    requires { (Stands s.now here) × (word_of here ≡ words.dot) }
+    requires { (Stands s.now here) × (word_of here ≡ dot) }
     ensures { (AnyBehind s.now left here table.old since result table.new) × (onward here result) }
 {
     let r = take(s, here);
@@ -338,7 +338,7 @@ fn field_access(s: &[u8], table: &mut [u64], left: Node, here: Here, since: usiz
 #[cycle(access_args_arm_assign_expr_atom_binop_expr_block_body_braces_cond_elses_expr_f_string_factor_field_four_guard_if_else_let_stmt_match_expr_operand_parens_path_expr_postfix_record_return_expr_stmt_stmts)]
 fn args(s: &[u8], table: &mut [u64], at: Here, limits: Limits) -> Read
     requires { Stands s.now at }
-    ensures { (Listed s.now at table.old limits words.open-paren phrases.EXPRS words.close-paren result table.new) × (onward at result) × (few result) }
+    ensures { (Listed s.now at table.old limits open_paren EXPRS close_paren result table.new) × (onward at result) × (few result) }
 {
     let r = open(s, at, word::ROUND_LEFT, limits);
     let Read::Done(opening, inside) = r else {
@@ -367,7 +367,7 @@ fn args(s: &[u8], table: &mut [u64], at: Here, limits: Limits) -> Read
 
 #[cycle(access_args_arm_assign_expr_atom_binop_expr_block_body_braces_cond_elses_expr_f_string_factor_field_four_guard_if_else_let_stmt_match_expr_operand_parens_path_expr_postfix_record_return_expr_stmt_stmts)]
 fn atom(s: &[u8], table: &mut [u64], here: Here, limits: Limits, records: bool) -> Read
-    requires { (Stands s.now here) × ((word_of here ≢ words.'!') × (word_of here ≢ words.'-')) }
+    requires { (Stands s.now here) × ((word_of here ≢ '!') × (word_of here ≢ '-')) }
     ensures { Atom s.now here table.old limits records result table.new }
 {
     if is_literal(here.word()) {
@@ -396,7 +396,7 @@ fn atom(s: &[u8], table: &mut [u64], here: Here, limits: Limits, records: bool) 
 
 fn literal(s: &[u8], table: &mut [u64], here: Here) -> Read
     requires { (Stands s.now here) × (T (one_of (word_of here) literals)) }
-    ensures { Anyhow s.now phrases.LITERAL here table.old 1 result table.new }
+    ensures { Anyhow s.now LITERAL here table.old 1 result table.new }
 {
     let step = here.step;
     let Step::Taken(word, start, cursor) = step else {
@@ -424,8 +424,8 @@ fn literal(s: &[u8], table: &mut [u64], here: Here) -> Read
 // A string with expressions inside: text, then a hole with one expr, and so on to the quote.
 #[cycle(access_args_arm_assign_expr_atom_binop_expr_block_body_braces_cond_elses_expr_f_string_factor_field_four_guard_if_else_let_stmt_match_expr_operand_parens_path_expr_postfix_record_return_expr_stmt_stmts)]
 fn f_string(s: &[u8], table: &mut [u64], at: Here, limits: Limits) -> Read
-    requires { (Stands s.now at) × (word_of at ≡ words.f-quote) }
-    ensures { Answers (the s.now (counts limits) phrases.F-STRING at table.old) 1 result table.new }
+    requires { (Stands s.now at) × (word_of at ≡ f_quote) }
+    ensures { Answers (the s.now (counts limits) F_STRING at table.old) 1 result table.new }
 {
     let step = at.step;
     let Step::Refused(quote) = step else {
@@ -486,7 +486,7 @@ fn path_expr(s: &[u8], table: &mut [u64], here: Here, limits: Limits, records: b
 #[cycle(access_args_arm_assign_expr_atom_binop_expr_block_body_braces_cond_elses_expr_f_string_factor_field_four_guard_if_else_let_stmt_match_expr_operand_parens_path_expr_postfix_record_return_expr_stmt_stmts)]
 fn parens(s: &[u8], table: &mut [u64], here: Here, limits: Limits) -> Read
     requires { Stands s.now here }
-    ensures { Answers (the s.now (counts limits) phrases.PARENS here table.old) 1 result table.new }
+    ensures { Answers (the s.now (counts limits) PARENS here table.old) 1 result table.new }
 {
     let r = open(s, here, word::ROUND_LEFT, limits);
     let Read::Done(_, inside) = r else {
@@ -507,7 +507,7 @@ fn parens(s: &[u8], table: &mut [u64], here: Here, limits: Limits) -> Read
 #[cycle(access_args_arm_assign_expr_atom_binop_expr_block_body_braces_cond_elses_expr_f_string_factor_field_four_guard_if_else_let_stmt_match_expr_operand_parens_path_expr_postfix_record_return_expr_stmt_stmts)]
 fn braces(s: &[u8], table: &mut [u64], here: Here, limits: Limits) -> Read
     requires { Stands s.now here }
-    ensures { Answers (the s.now (counts limits) phrases.BRACES here table.old) 1 result table.new }
+    ensures { Answers (the s.now (counts limits) BRACES here table.old) 1 result table.new }
 {
     let r = open(s, here, word::CURLY_LEFT, limits);
     let Read::Done(opening, inside) = r else {
@@ -565,7 +565,7 @@ fn record(
 #[cycle(access_args_arm_assign_expr_atom_binop_expr_block_body_braces_cond_elses_expr_f_string_factor_field_four_guard_if_else_let_stmt_match_expr_operand_parens_path_expr_postfix_record_return_expr_stmt_stmts)]
 fn field(s: &[u8], table: &mut [u64], here: Here, limits: Limits) -> Read
     requires { (Stands s.now here) × (limits.signs ≡ 32) }
-    ensures { Answers (the s.now (counts limits) phrases.FIELD here table.old) 1 result table.new }
+    ensures { Answers (the s.now (counts limits) FIELD here table.old) 1 result table.new }
 {
     let r = identifier(s, table, here);
     let Read::Done(name, next) = r else {
@@ -591,7 +591,7 @@ fn field(s: &[u8], table: &mut [u64], here: Here, limits: Limits) -> Read
 #[cycle(access_args_arm_assign_expr_atom_binop_expr_block_body_braces_cond_elses_expr_f_string_factor_field_four_guard_if_else_let_stmt_match_expr_operand_parens_path_expr_postfix_record_return_expr_stmt_stmts)]
 fn four(s: &[u8], table: &mut [u64], here: Here, limits: Limits) -> Read
     requires { Stands s.now here }
-    ensures { Answers (the s.now (counts limits) phrases.FOUR here table.old) 1 result table.new }
+    ensures { Answers (the s.now (counts limits) FOUR here table.old) 1 result table.new }
 {
     if !is_four(here.word()) {
         return unusable(here);
@@ -713,7 +713,7 @@ fn elses(
     start: usize,
     since: usize,
 ) -> Read
-    requires { (Stands s.now here) × (word_of here ≢ words.'if') }
+    requires { (Stands s.now here) × (word_of here ≢ 'if') }
     ensures { Elsed s.now here table.old limits start since result table.new }
 {
     if here.word() != word::CURLY_LEFT {
@@ -776,7 +776,7 @@ fn match_expr(s: &[u8], table: &mut [u64], at: Here, limits: Limits, start: usiz
 #[cycle(access_args_arm_assign_expr_atom_binop_expr_block_body_braces_cond_elses_expr_f_string_factor_field_four_guard_if_else_let_stmt_match_expr_operand_parens_path_expr_postfix_record_return_expr_stmt_stmts)]
 fn arm(s: &[u8], table: &mut [u64], here: Here, limits: Limits) -> Arm
     requires { (Stands s.now here) × (limits.signs ≡ 32) × T (one_of (word_of here) names) }
-    ensures { OneArm (the s.now (counts limits) phrases.ARM here table.old) result table.new }
+    ensures { OneArm (the s.now (counts limits) ARM here table.old) result table.new }
 {
     let r = pattern(s, table, here, limits);
     let Read::Done(matched, next) = r else {
@@ -864,7 +864,7 @@ fn guard(s: &[u8], table: &mut [u64], here: Here, limits: Limits) -> Read
 #[cycle(access_args_arm_assign_expr_atom_binop_expr_block_body_braces_cond_elses_expr_f_string_factor_field_four_guard_if_else_let_stmt_match_expr_operand_parens_path_expr_postfix_record_return_expr_stmt_stmts)]
 fn block(s: &[u8], table: &mut [u64], here: Here, limits: Limits) -> Read
     requires { Stands s.now here }
-    ensures { Answers (the s.now (counts limits) phrases.BLOCK here table.old) 1 result table.new }
+    ensures { Answers (the s.now (counts limits) BLOCK here table.old) 1 result table.new }
 {
     let r = open(s, here, word::CURLY_LEFT, limits);
     let Read::Done(opening, inside) = r else {
@@ -948,8 +948,8 @@ fn stmt(s: &[u8], table: &mut [u64], here: Here, limits: Limits) -> Stmt
 // `let name [: type] = expr ;`
 #[cycle(access_args_arm_assign_expr_atom_binop_expr_block_body_braces_cond_elses_expr_f_string_factor_field_four_guard_if_else_let_stmt_match_expr_operand_parens_path_expr_postfix_record_return_expr_stmt_stmts)]
 fn let_stmt(s: &[u8], table: &mut [u64], here: Here, limits: Limits) -> Read
-    requires { (Stands s.now here) × (word_of here ≡ words.'let') }
-    ensures { Answers (the s.now (counts limits) phrases.LET here table.old) 1 result table.new }
+    requires { (Stands s.now here) × (word_of here ≡ 'let') }
+    ensures { Answers (the s.now (counts limits) LET here table.old) 1 result table.new }
 {
     let after = limits.plain();
     let r = take(s, here);

@@ -1,5 +1,5 @@
 // Names and paths.
-ghost use Rattle.grammar.specs.Kinds.{phrases};
+ghost use Rattle.grammar.specs.Kinds.{NAME, FIELD_NAME, PATH_ITEM, PATH};
 ghost use Rattle.parser.specs.Going.{Stands};
 ghost use Rattle.promises.specs.Firsts.{undotted};
 ghost use Rattle.promises.specs.Promises.{Anyhow, item_row, Wrote};
@@ -27,7 +27,7 @@ pub fn item(s: &[u8], table: &mut [u64], here: Here) -> Read
 
 pub fn identifier(s: &[u8], table: &mut [u64], here: Here) -> Read
     requires { Stands s.now here }
-    ensures { (Anyhow s.now phrases.NAME here table.old 3 result table.new) × (Anyhow s.now phrases.FIELD-NAME here table.old 3 result table.new) }
+    ensures { (Anyhow s.now NAME here table.old 3 result table.new) × (Anyhow s.now FIELD_NAME here table.old 3 result table.new) }
 {
     if !is_name(here.word()) {
         return unusable(here);
@@ -37,7 +37,7 @@ pub fn identifier(s: &[u8], table: &mut [u64], here: Here) -> Read
 
 pub fn path_item(s: &[u8], table: &mut [u64], here: Here) -> Read
     requires { Stands s.now here }
-    ensures { Anyhow s.now phrases.PATH-ITEM here table.old 3 result table.new }
+    ensures { Anyhow s.now PATH_ITEM here table.old 3 result table.new }
 {
     if !is_path_item(here.word()) {
         return unusable(here);
@@ -47,7 +47,7 @@ pub fn path_item(s: &[u8], table: &mut [u64], here: Here) -> Read
 
 pub fn path(s: &[u8], table: &mut [u64], at: Here) -> Read
     requires { Stands s.now at }
-    ensures { (Anyhow s.now phrases.PATH at table.old 2 result table.new) × (undotted result) }
+    ensures { (Anyhow s.now PATH at table.old 2 result table.new) × (undotted result) }
 {
     let r = path_item(s, table, at);
     let Read::Done(first, next) = r else {

@@ -1,6 +1,6 @@
 // Parts of phrases, and the rows over them.
 ghost use Rattle.std.specs.Prelude.{◌≡◌, get_or};
-ghost use Rattle.grammar.specs.Words.{words};
+ghost use Rattle.grammar.specs.Words.{close_brace};
 ghost use Rattle.parser.specs.declared.Read.TheVariants.{Done};
 ghost use Rattle.promises.specs.Firsts.{part_of, ended_by, last_arm};
 ghost use Rattle.parser.specs.Places.{end_of};
@@ -84,7 +84,7 @@ pub fn braced(
     value: u64,
     since: usize,
 ) -> Read
-    ensures { Closed s.now here table.old words.close-brace (record { kind = kind; start = start; end = end_of here; children = children; value = value; detail = 0 }) since result table.new }
+    ensures { Closed s.now here table.old close_brace (record { kind = kind; start = start; end = end_of here; children = children; value = value; detail = 0 }) since result table.new }
 {
     let r = expect(s, here, word::CURLY_RIGHT);
     let Read::Done(brace, next) = r else {

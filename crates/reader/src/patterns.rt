@@ -1,7 +1,7 @@
 // Patterns of a match.
 ghost use Rattle.std.specs.Prelude.{◌≡◌};
-ghost use Rattle.grammar.specs.Words.{words};
-ghost use Rattle.grammar.specs.Kinds.{phrases};
+ghost use Rattle.grammar.specs.Words.{underscore, open_paren, close_paren};
+ghost use Rattle.grammar.specs.Kinds.{PATTERN, NAMES};
 ghost use Rattle.parser.specs.Places.{word_of};
 ghost use Rattle.parser.specs.Counted.{counts};
 ghost use Rattle.parser.specs.Going.{Stands, Answers};
@@ -17,7 +17,7 @@ use words::is_name;
 // A name other than `_` with perhaps `( list of names )`, or `_` alone.
 pub fn pattern(s: &[u8], table: &mut [u64], here: Here, limits: Limits) -> Read
     requires { Stands s.now here }
-    ensures { Answers (the s.now (counts limits) phrases.PATTERN here table.old) 1 result table.new }
+    ensures { Answers (the s.now (counts limits) PATTERN here table.old) 1 result table.new }
 {
     if here.word() == word::UNDERSCORE {
         return any_pattern(s, table, here);
@@ -46,8 +46,8 @@ pub fn pattern(s: &[u8], table: &mut [u64], here: Here, limits: Limits) -> Read
 }
 
 fn any_pattern(s: &[u8], table: &mut [u64], here: Here) -> Read
-    requires { (Stands s.now here) × (word_of here ≡ words.underscore) }
-    ensures { Anyhow s.now phrases.PATTERN here table.old 1 result table.new }
+    requires { (Stands s.now here) × (word_of here ≡ underscore) }
+    ensures { Anyhow s.now PATTERN here table.old 1 result table.new }
 {
     let r = take(s, here);
     let Read::Done(token, next) = r else {
@@ -64,7 +64,7 @@ fn any_pattern(s: &[u8], table: &mut [u64], here: Here) -> Read
 // `( list of names )`
 fn names(s: &[u8], table: &mut [u64], at: Here, limits: Limits) -> Read
     requires { Stands s.now at }
-    ensures { Listed s.now at table.old limits words.open-paren phrases.NAMES words.close-paren result table.new }
+    ensures { Listed s.now at table.old limits open_paren NAMES close_paren result table.new }
 {
     let r = open(s, at, word::ROUND_LEFT, limits);
     let Read::Done(opening, inside) = r else {

@@ -1,8 +1,8 @@
 // Types, and lists of names with types.
 ghost use Rattle.std.specs.Prelude.{◌≡◌, ◌⊎◌, T};
-ghost use Rattle.grammar.specs.Words.{path_items, words};
+ghost use Rattle.grammar.specs.Words.{'!', open_paren, open_brace, open_bracket, close_bracket, ':', '->', path_items};
 ghost use Rattle.grammar.specs.Grammar.{one_of};
-ghost use Rattle.grammar.specs.Kinds.{phrases};
+ghost use Rattle.grammar.specs.Kinds.{TYPE, TYPE_BASE, TYPES, TYPED_NAMES, TYPED_NAME};
 ghost use Rattle.parser.specs.Places.{word_of, end_of, plain_row};
 ghost use Rattle.parser.specs.Counted.{counts};
 ghost use Rattle.parser.specs.Going.{Stands, Answers};
@@ -20,7 +20,7 @@ use words::{can_begin_type, closing_of, is_name, is_path_item};
 #[cycle(path_type_record_type_type_base_type_expr_typed_name_typed_names_types)]
 pub fn type_expr(s: &[u8], table: &mut [u64], at: Here, limits: Limits) -> Read
     requires { Stands s.now at }
-    ensures { Answers (the s.now (counts limits) phrases.TYPE at table.old) 1 result table.new }
+    ensures { Answers (the s.now (counts limits) TYPE at table.old) 1 result table.new }
 {
     let r = type_base(s, table, at, limits);
     let Read::Done(first, next) = r else {
@@ -60,7 +60,7 @@ pub fn question(
 #[cycle(path_type_record_type_type_base_type_expr_typed_name_typed_names_types)]
 fn type_base(s: &[u8], table: &mut [u64], here: Here, limits: Limits) -> Read
     requires { Stands s.now here }
-    ensures { Answers (the s.now (counts limits) phrases.TYPE-BASE here table.old) 1 result table.new }
+    ensures { Answers (the s.now (counts limits) TYPE_BASE here table.old) 1 result table.new }
 {
     if here.word() == word::BANG {
         return never_type(s, table, here);
@@ -78,8 +78,8 @@ fn type_base(s: &[u8], table: &mut [u64], here: Here, limits: Limits) -> Read
 }
 
 fn never_type(s: &[u8], table: &mut [u64], here: Here) -> Read
-    requires { (Stands s.now here) × (word_of here ≡ words.'!') }
-    ensures { Anyhow s.now phrases.TYPE-BASE here table.old 1 result table.new }
+    requires { (Stands s.now here) × (word_of here ≡ '!') }
+    ensures { Anyhow s.now TYPE_BASE here table.old 1 result table.new }
 {
     let r = take(s, here);
     let Read::Done(token, next) = r else {
@@ -94,8 +94,8 @@ fn never_type(s: &[u8], table: &mut [u64], here: Here) -> Read
 }
 
 fn unit_type(s: &[u8], table: &mut [u64], here: Here, limits: Limits) -> Read
-    requires { (Stands s.now here) × (word_of here ≡ words.open-paren) }
-    ensures { Answers (the s.now (counts limits) phrases.TYPE-BASE here table.old) 1 result table.new }
+    requires { (Stands s.now here) × (word_of here ≡ open_paren) }
+    ensures { Answers (the s.now (counts limits) TYPE_BASE here table.old) 1 result table.new }
 {
     let r = open(s, here, word::ROUND_LEFT, limits);
     let Read::Done(opening, next) = r else {
@@ -115,8 +115,8 @@ fn unit_type(s: &[u8], table: &mut [u64], here: Here, limits: Limits) -> Read
 
 #[cycle(path_type_record_type_type_base_type_expr_typed_name_typed_names_types)]
 fn record_type(s: &[u8], table: &mut [u64], here: Here, limits: Limits) -> Read
-    requires { (Stands s.now here) × (word_of here ≡ words.open-brace) }
-    ensures { Answers (the s.now (counts limits) phrases.TYPE-BASE here table.old) 1 result table.new }
+    requires { (Stands s.now here) × (word_of here ≡ open_brace) }
+    ensures { Answers (the s.now (counts limits) TYPE_BASE here table.old) 1 result table.new }
 {
     let r = typed_names(s, table, here, limits, word::CURLY_LEFT);
     let Read::Done(list, next) = r else {
@@ -130,7 +130,7 @@ fn record_type(s: &[u8], table: &mut [u64], here: Here, limits: Limits) -> Read
 #[cycle(path_type_record_type_type_base_type_expr_typed_name_typed_names_types)]
 fn path_type(s: &[u8], table: &mut [u64], here: Here, limits: Limits) -> Read
     requires { (Stands s.now here) × (T (one_of (word_of here) path_items)) }
-    ensures { Answers (the s.now (counts limits) phrases.TYPE-BASE here table.old) 1 result table.new }
+    ensures { Answers (the s.now (counts limits) TYPE_BASE here table.old) 1 result table.new }
 {
     let r = path(s, table, here);
     let Read::Done(base, next) = r else {
@@ -156,7 +156,7 @@ fn path_type(s: &[u8], table: &mut [u64], here: Here, limits: Limits) -> Read
 #[cycle(path_type_record_type_type_base_type_expr_typed_name_typed_names_types)]
 fn types(s: &[u8], table: &mut [u64], at: Here, limits: Limits) -> Read
     requires { Stands s.now at }
-    ensures { Listed s.now at table.old limits words.open-bracket phrases.TYPES words.close-bracket result table.new }
+    ensures { Listed s.now at table.old limits open_bracket TYPES close_bracket result table.new }
 {
     let r = open(s, at, word::SQUARE_LEFT, limits);
     let Read::Done(opening, inside) = r else {
@@ -186,8 +186,8 @@ fn types(s: &[u8], table: &mut [u64], at: Here, limits: Limits) -> Read
 // A list of `name : type` in brackets of a kind.
 #[cycle(path_type_record_type_type_base_type_expr_typed_name_typed_names_types)]
 pub fn typed_names(s: &[u8], table: &mut [u64], at: Here, limits: Limits, bracket: u64) -> Read
-    requires { (Stands s.now at) × ((bracket ≡ words.open-paren) ⊎ (bracket ≡ words.open-brace)) }
-    ensures { Listed s.now at table.old limits bracket phrases.TYPED-NAMES (closing_of bracket) result table.new }
+    requires { (Stands s.now at) × ((bracket ≡ open_paren) ⊎ (bracket ≡ open_brace)) }
+    ensures { Listed s.now at table.old limits bracket TYPED_NAMES (closing_of bracket) result table.new }
 {
     let r = open(s, at, bracket, limits);
     let Read::Done(opening, inside) = r else {
@@ -219,7 +219,7 @@ pub fn typed_names(s: &[u8], table: &mut [u64], at: Here, limits: Limits, bracke
 #[cycle(path_type_record_type_type_base_type_expr_typed_name_typed_names_types)]
 fn typed_name(s: &[u8], table: &mut [u64], here: Here, limits: Limits) -> Read
     requires { Stands s.now here }
-    ensures { Answers (the s.now (counts limits) phrases.TYPED-NAME here table.old) 1 result table.new }
+    ensures { Answers (the s.now (counts limits) TYPED_NAME here table.old) 1 result table.new }
 {
     let r = identifier(s, table, here);
     let Read::Done(name, next) = r else {
@@ -243,7 +243,7 @@ fn typed_name(s: &[u8], table: &mut [u64], here: Here, limits: Limits) -> Read
 
 // Perhaps a sign and a type behind it: 1 child, or 0.
 pub fn typing(s: &[u8], table: &mut [u64], here: Here, limits: Limits, sign: u64) -> Read
-    requires { (Stands s.now here) × ((sign ≡ words.'->') ⊎ (sign ≡ words.':')) }
+    requires { (Stands s.now here) × ((sign ≡ '->') ⊎ (sign ≡ ':')) }
     ensures { Typing s.now here table.old limits sign result table.new }
 {
     if here.word() != sign {

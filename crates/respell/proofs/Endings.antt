@@ -6,12 +6,12 @@ use mathlib.Core.Logic.{inl, inr}
 use Prim.Native.Nat.{ℕ, zero, suc, ◌+◌, ◌≤◌}
 use native.Mathlib.Omega.{arith}
 use lib.Dec.{T, eqb, eqb→eq}
-use Rattle.grammar.specs.Words.{words}
+use Rattle.grammar.specs.Words.{close_brace}
 use Rattle.grammar.specs.Grammar.{Ask, has_value, same, Symbol, phrase, text, View, one, Token, Look, found, Stream, Parts, Language, one_of}
 use Rattle.grammar.specs.Choice.{see, among}
 use Rattle.grammar.specs.Runs.{viewed, view}
 use Rattle.grammar.specs.Limits.{Counts, zeros, after, inside}
-use Rattle.grammar.specs.Kinds.{records, phrases}
+use Rattle.grammar.specs.Kinds.{HOLE, EXPR, records}
 use Rattle.grammar.specs.Language.{roto}
 use Rattle.grammar.specs.Culprit.{any}
 use Rattle.grammar.specs.Readings.{peek, reads_end, reads_token, reads_phrase, reads_unless, reads_note, reads_side, reads_text, ReadingBy}
@@ -23,8 +23,6 @@ use Rattle.answers.specs.Source.{source}
 use Rattle.respell.specs.Spelt.{hole_symbols}
 use Rattle.respell.proofs.Pieces.{piece_lies}
 use Rattle.respell.proofs.FStrings.{token_takes, onward, still, still_reads, holed, text_moves, roto_hole, roto_holes}
-open words use {close-brace}
-open phrases use {HOLE, EXPR}
 
 -- tests of tokens set aside, the counts don't matter
 module _ (S : Stream) (l : Language) where
@@ -41,7 +39,7 @@ pub one_found : {P : Type 0} {a : Look P} {x y : Token} {j k : P} → a ≡ foun
 one_found {x = x} {y = y} {j = j} {k = k} e f = let g : found x j ≡ found y k = sym e ∙ f in let u : x ≡ y = cc in let v : j ≡ k = cc in (u, v)
 
 abbrev brace : List View
-brace = one close-brace ∷ []
+brace = one close_brace ∷ []
 
 -- a hole's expr is followed by `}`
 hole_closed : (tests : Bool) → T (closed (roto tests) (phrase same (EXPR records) ∷ []) brace)
@@ -49,15 +47,15 @@ unfolding roto
 hole_closed true = tt
 hole_closed false = tt
 
-seen_brace : (tests : Bool) (n : ℕ) → T (among (see (roto tests) close-brace n) brace)
+seen_brace : (tests : Bool) (n : ℕ) → T (among (see (roto tests) close_brace n) brace)
 unfolding roto
 seen_brace true n = tt
 seen_brace false n = tt
 
 module _ (tests : Bool) (s : List ℕ) (G G' : Ask → Counts → Token → Bool) where
-  at_brace : (c f : ℕ) (y : Token) → (source s).look c ≡ found y f → T (one_of y.word (close-brace ∷ [])) → T (among (view (source s) (roto tests) c) brace)
+  at_brace : (c f : ℕ) (y : Token) → (source s).look c ≡ found y f → T (one_of y.word (close_brace ∷ [])) → T (among (view (source s) (roto tests) c) brace)
   at_brace c f y e m =
-      let w : y.word ≡ close-brace = elim (or_cases (eqb y.word close-brace) false m) [ inl k ↦ eqb→eq y.word close-brace k | inr k ↦ absurd k ] in
+      let w : y.word ≡ close_brace = elim (or_cases (eqb y.word close_brace) false m) [ inl k ↦ eqb→eq y.word close_brace k | inr k ↦ absurd k ] in
       subst (λ (k : Look ℕ). T (among (viewed (source s) (roto tests) k) brace)) (sym e) (subst (λ (n : ℕ). T (among (see (roto tests) n (peek (source s) (roto tests) f)) brace)) (sym w) (seen_brace tests (peek (source s) (roto tests) f)))
 
   abbrev Ends : ℕ → Type 0

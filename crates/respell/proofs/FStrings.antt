@@ -8,13 +8,13 @@ use native.Mathlib.Omega.{arith}
 use lib.ListN.{length}
 use lib.Dec.{T, T_not, eqb, eqb→eq}
 use borrow.Author.Tests.{eq-eqb}
-use Rattle.rows.specs.Kinds.{kinds}
+use Rattle.rows.specs.Kinds as kinds
 use Rattle.chars.specs.Chars.{byte_at, is_class}
-use Rattle.texts.specs.Signs.{signs}
-use Rattle.grammar.specs.Words.{words}
+use Rattle.texts.specs.Signs.{quote}
+use Rattle.grammar.specs.Words.{open_brace, close_brace, f_quote, text_then_hole}
 use Rattle.grammar.specs.Grammar.{Ask, has_value, same, Symbol, token, phrase, unless, note, left_side, text, Rule, Token, found, Stream, Parts, leaf, Language, In, here, there, one_of, alternatives}
 use Rattle.grammar.specs.Limits.{Counts, after, inside}
-use Rattle.grammar.specs.Kinds.{phrases}
+use Rattle.grammar.specs.Kinds.{HOLE}
 use Rattle.grammar.specs.Table.{row}
 use Rattle.grammar.specs.Language.{roto}
 use Rattle.grammar.specs.Readings.{reads_end, reads_token, reads_phrase, reads_unless, reads_note, reads_side, reads_text, ReadingBy}
@@ -27,9 +27,6 @@ use Rattle.respell.specs.Shown.{placed, Like, is_piece, tail_symbols, Again, Sho
 use Rattle.respell.specs.Spelt.{hole_symbols}
 use Rattle.respell.proofs.Looks.{look_lies, look_end, look_copied}
 use Rattle.respell.proofs.Pieces.{piece_lies, piece_quote, piece_last, piece_copied}
-open signs use {quote}
-open words use {open-brace, close-brace, f-quote, text-then-hole}
-open phrases use {HOLE}
 
 -- one list behind another
 pub append : {S : Stream} {Q : Token → Token → Type 0} {xs ys : List Token} {i j r : S.Place} → Shown S Q xs i j → Shown S Q ys j r → Shown S Q (xs ++ ys) i r
@@ -80,7 +77,7 @@ pub record Holed (s : List ℕ) (l : Language) (G : Ask → Counts → Token →
   pub rest : ReadingBy (source s) l G d b middle r outer
   pub tokens : tokens_of p ≡ tokens_of inner ++ tokens_of outer
 
-module _ (s : List ℕ) (l : Language) (hole-word : l.hole ≡ text-then-hole) (holes : (b : List Symbol) → In b (alternatives l HOLE) → b ≡ hole_symbols) (G : Ask → Counts → Token → Bool) where
+module _ (s : List ℕ) (l : Language) (hole-word : l.hole ≡ text_then_hole) (holes : (b : List Symbol) → In b (alternatives l HOLE) → b ≡ hole_symbols) (G : Ask → Counts → Token → Bool) where
   pub holed : {d : Counts} {b : List Symbol} {i r : ℕ} {p : Parts} → ReadingBy (source s) l G d (phrase same HOLE ∷ b) i r p → Holed s l G d b i r p
   unfolding tokens_of
   holed (reads_phrase {d = d} {a = c} {i = i} {m = m} {p = p} {q = p₂} o u v) = record {
@@ -98,10 +95,10 @@ module _ (s : List ℕ) (l : Language) (hole-word : l.hole ≡ text-then-hole) (
   pub text_moves : {d : Counts} {b : List Symbol} {i r : ℕ} {p : Parts} → ReadingBy (source s) l G d (text HOLE ∷ b) i r p → i < r
   text_moves (reads_text {d = d} {s = b} {x = x} {i = i} {j = j} {r = r} {p = p} e k u) = by (piece_lies s i x j e).1
     where
-      open_hole : x.word ≡ text-then-hole → ReadingBy (source s) l G (after has_value d) (phrase same HOLE ∷ b) j r p
+      open_hole : x.word ≡ text_then_hole → ReadingBy (source s) l G (after has_value d) (phrase same HOLE ∷ b) j r p
       open_hole w = subst (λ (z : Bool). ReadingBy (source s) l G (after has_value d) (cond z (phrase same HOLE ∷ b) b) j r p) (eq-eqb x.word l.hole (w ∙ sym hole-word)) u
 
-      by : (x.word ≡ text-then-hole) ⊎ (i < j) → i < r
+      by : (x.word ≡ text_then_hole) ⊎ (i < j) → i < r
       by (inl w) =
           let f = (piece_lies s i x j e).0 in
           let z = holed (open_hole w) in
@@ -192,7 +189,7 @@ notes_string [] = false
 notes_string (token g w ∷ b) = false
 notes_string (phrase o n ∷ b) = false
 notes_string (unless w ∷ b) = false
-notes_string (note k ∷ b) = eqb k kinds.F-STRING && no_more b
+notes_string (note k ∷ b) = eqb k kinds.F_STRING && no_more b
 notes_string (left_side n m ∷ b) = false
 notes_string (text n ∷ b) = false
 
@@ -207,7 +204,7 @@ is_tail (text n ∷ b) = eqb n HOLE && notes_string b
 
 abbrev pub quoted : List Symbol → Bool
 quoted [] = true
-quoted (token g w ∷ b) = (not (one_of f-quote w) || is_tail b) && quoted b
+quoted (token g w ∷ b) = (not (one_of f_quote w) || is_tail b) && quoted b
 quoted (phrase o n ∷ b) = quoted b
 quoted (unless w ∷ b) = quoted b
 quoted (note k ∷ b) = quoted b
@@ -225,12 +222,12 @@ none_is : (b : List Symbol) → T (no_more b) → b ≡ []
 none_is [] h = refl
 none_is (a ∷ b) h = absurd h
 
-note_is : (b : List Symbol) → T (notes_string b) → b ≡ row kinds.F-STRING ∷ []
+note_is : (b : List Symbol) → T (notes_string b) → b ≡ row kinds.F_STRING ∷ []
 note_is [] h = absurd h
 note_is (token g w ∷ b) h = absurd h
 note_is (phrase o n ∷ b) h = absurd h
 note_is (unless w ∷ b) h = absurd h
-note_is (note k ∷ b) h = ap (λ (n : ℕ). note n ∷ b) (eqb→eq k kinds.F-STRING (and_l (eqb k kinds.F-STRING) (no_more b) h)) ∙ ap (λ (o : List Symbol). row kinds.F-STRING ∷ o) (none_is b (and_r (eqb k kinds.F-STRING) (no_more b) h))
+note_is (note k ∷ b) h = ap (λ (n : ℕ). note n ∷ b) (eqb→eq k kinds.F_STRING (and_l (eqb k kinds.F_STRING) (no_more b) h)) ∙ ap (λ (o : List Symbol). row kinds.F_STRING ∷ o) (none_is b (and_r (eqb k kinds.F_STRING) (no_more b) h))
 note_is (left_side n m ∷ b) h = absurd h
 note_is (text n ∷ b) h = absurd h
 
@@ -244,8 +241,8 @@ tail_is (left_side n m ∷ b) h = absurd h
 tail_is (text n ∷ b) h = ap (λ (m : ℕ). text m ∷ b) (eqb→eq n HOLE (and_l (eqb n HOLE) (notes_string b) h)) ∙ ap (λ (o : List Symbol). text HOLE ∷ o) (note_is b (and_r (eqb n HOLE) (notes_string b) h))
 
 -- another word
-other : (c k : ℕ) → T (one_of c (k ∷ [])) → T (not (eqb k f-quote)) → c ≡ f-quote → ⊥
-other c k m h e = elim (or_cases (eqb c k) false m) [ inl f ↦ T_not (eqb k f-quote) h (subst (λ (n : ℕ). T (eqb n f-quote)) (eqb→eq c k f) (subst (λ (n : ℕ). T (eqb n f-quote)) (sym e) tt)) | inr f ↦ absurd f ]
+other : (c k : ℕ) → T (one_of c (k ∷ [])) → T (not (eqb k f_quote)) → c ≡ f_quote → ⊥
+other c k m h e = elim (or_cases (eqb c k) false m) [ inl f ↦ T_not (eqb k f_quote) h (subst (λ (n : ℕ). T (eqb n f_quote)) (eqb→eq c k f) (subst (λ (n : ℕ). T (eqb n f_quote)) (sym e) tt)) | inr f ↦ absurd f ]
 
 module _ {s t : List ℕ} {lo : ℕ} (q q' : ℕ) (copy : Copied s t lo (q + 1) (q' + 1)) (shut : byte_at s q ≡ quote) (first : lo ≤ q) where
   short : Copied s t lo q q'
@@ -261,17 +258,17 @@ module _ {s t : List ℕ} {lo : ℕ} (q q' : ℕ) (copy : Copied s t lo (q + 1) 
   closes_too : eqb (byte_at t q') 34 ≡ true → eqb (byte_at s q) 34 ≡ true
   closes_too h = ap (λ (b : ℕ). eqb b 34) shut
 
-  module _ (l : Language) (hole-word : l.hole ≡ text-then-hole) (holes : (b : List Symbol) → In b (alternatives l HOLE) → b ≡ hole_symbols) (quotes : T (all_quoted l.rules)) (G : Ask → Counts → Token → Bool) where
+  module _ (l : Language) (hole-word : l.hole ≡ text_then_hole) (holes : (b : List Symbol) → In b (alternatives l HOLE) → b ≡ hole_symbols) (quotes : T (all_quoted l.rules)) (G : Ask → Counts → Token → Bool) where
     abbrev Q : Token → Token → Type 0
     Q = Again s t l G
 
     abbrev Reach : Token → Type 0
-    Reach x = x.word ≡ f-quote → (d : Counts) × (r : ℕ) × (p : Parts) × ReadingBy (source s) l G d tail_symbols x.end r p × (r ≤ q + 1)
+    Reach x = x.word ≡ f_quote → (d : Counts) × (r : ℕ) × (p : Parts) × ReadingBy (source s) l G d tail_symbols x.end r p × (r ≤ q + 1)
 
     -- what is read behind `f"` lies in the copy
-    reach_of : {d : Counts} (w : List ℕ) (b : List Symbol) {j r : ℕ} {p : Parts} (x : Token) → T (not (one_of f-quote w) || is_tail b) → T (one_of x.word w) → x.end ≡ j → ReadingBy (source s) l G d b j r p → r ≤ q + 1 → Reach x
+    reach_of : {d : Counts} (w : List ℕ) (b : List Symbol) {j r : ℕ} {p : Parts} (x : Token) → T (not (one_of f_quote w) || is_tail b) → T (one_of x.word w) → x.end ≡ j → ReadingBy (source s) l G d b j r p → r ≤ q + 1 → Reach x
     reach_of {d} w b {j} {r} {p} x h m f u le e =
-        let z : b ≡ tail_symbols = elim (or_cases (not (one_of f-quote w)) (is_tail b) h) [ inl k ↦ absurd (T_not (one_of f-quote w) k (subst (λ (c : ℕ). T (one_of c w)) e m)) | inr k ↦ tail_is b k ] in
+        let z : b ≡ tail_symbols = elim (or_cases (not (one_of f_quote w)) (is_tail b) h) [ inl k ↦ absurd (T_not (one_of f_quote w) k (subst (λ (c : ℕ). T (one_of c w)) e m)) | inr k ↦ tail_is b k ] in
         (d, r, p, subst (λ (n : ℕ). ReadingBy (source s) l G d tail_symbols n r p) (sym f) (subst (λ (o : List Symbol). ReadingBy (source s) l G d o j r p) z u), le)
 
     look_too : (x : Token) (i j : ℕ) → (source s).look i ≡ found x j → j ≤ q → (i' j' : ℕ) → lo ≤ i → i + q' ≡ i' + q → j + q' ≡ j' + q → Reach x → (y : Token) × ((source t).look i' ≡ found y j') × Q x y × T (not (is_piece x.word))
@@ -301,8 +298,8 @@ module _ {s t : List ℕ} {lo : ℕ} (q q' : ℕ) (copy : Copied s t lo (q + 1) 
         let g = onward s u in
         let f = token_takes s x i j e in
         let j' : ℕ = i' + (j - i) in
-        let v = look_too x i j e (omega arith) i' j' l' at (omega arith) (reach_of w b x (and_l (not (one_of f-quote w) || is_tail b) (quoted b) c) m (look_end s i x j e) u (omega arith)) in
-        shown_token {y = v.0} v.1 v.2 v.3 (inner_shown u (and_r (not (one_of f-quote w) || is_tail b) (quoted b) c) h j' r' (omega arith) (omega arith) to)
+        let v = look_too x i j e (omega arith) i' j' l' at (omega arith) (reach_of w b x (and_l (not (one_of f_quote w) || is_tail b) (quoted b) c) m (look_end s i x j e) u (omega arith)) in
+        shown_token {y = v.0} v.1 v.2 v.3 (inner_shown u (and_r (not (one_of f_quote w) || is_tail b) (quoted b) c) h j' r' (omega arith) (omega arith) to)
     inner_shown (reads_phrase {n = n} {i = i} {m = m} o u v) c h i' r' l' at to =
         let g = onward s u in
         let f = onward s v in
@@ -335,9 +332,9 @@ module _ {s t : List ℕ} {lo : ℕ} (q q' : ℕ) (copy : Copied s t lo (q + 1) 
         let j' : ℕ = i' + (j - i) in
         let c' : ℕ = i' + (c - i) in
         let f' : ℕ = i' + (f - i) in
-        let w₁ = look_too x i j e (omega arith) i' j' from at (omega arith) (λ g. absurd (other x.word open-brace m tt g)) in
+        let w₁ = look_too x i j e (omega arith) i' j' from at (omega arith) (λ g. absurd (other x.word open_brace m tt g)) in
         let w₂ = inner_shown v (passes_at (λ n b. quoted b) l.rules kind quotes o) (omega arith) j' c' (omega arith) (omega arith) (omega arith) in
-        let w₃ = look_too y c f e₂ (omega arith) c' f' (omega arith) (omega arith) (omega arith) (λ g. absurd (other y.word close-brace m₂ tt g)) in
+        let w₃ = look_too y c f e₂ (omega arith) c' f' (omega arith) (omega arith) (omega arith) (λ g. absurd (other y.word close_brace m₂ tt g)) in
         shown_token {y = w₁.0} w₁.1 w₁.2 w₁.3 (append w₂ (shown_token {y = w₃.0} w₃.1 w₃.2 w₃.3 (ih _ [] f r _ tt u z (omega arith) f' (omega arith) (omega arith))))
 
     texts : (n : ℕ) → Texts n
@@ -365,7 +362,7 @@ module _ {s t : List ℕ} {lo : ℕ} (q q' : ℕ) (copy : Copied s t lo (q + 1) 
         by false w ih =
             let st = still_reads s b f (read_as false w) in
             let end = st.0 in
-            let none : x.word ≡ text-then-hole → ⊥ = λ o. true≢false (sym (eq-eqb x.word l.hole (o ∙ sym hole-word)) ∙ w) in
+            let none : x.word ≡ text_then_hole → ⊥ = λ o. true≢false (sym (eq-eqb x.word l.hole (o ∙ sym hole-word)) ∙ w) in
             let lt : i < j = elim (piece_lies s i x j e).1 [ inl o ↦ absurd (none o) | inr o ↦ o ] in
             let v = piece_copied q q' copy shut i i' j (q' + 1) x from (omega arith) at e (omega arith) (λ o. absurd (none o)) (omega arith) in
             shown_piece {y = v.0} v.1 (piece_again v.2 v.3) v.3 (subst (λ (o : List Token). Shown (source t) Q o (q' + 1) (q' + 1)) (sym st.1) shown_none)
@@ -394,7 +391,7 @@ unfolding roto
 roto_holes true b o = each (λ (c : List Symbol). c ≡ hole_symbols) o (refl, tt)
 roto_holes false b o = each (λ (c : List Symbol). c ≡ hole_symbols) o (refl, tt)
 
-pub roto_hole : (tests : Bool) → (roto tests).hole ≡ text-then-hole
+pub roto_hole : (tests : Bool) → (roto tests).hole ≡ text_then_hole
 unfolding roto
 roto_hole tests = refl
 

@@ -22,7 +22,7 @@ use Rattle.tokens.specs.Blanks.{skip_all}
 use Rattle.tokens.specs.Rules.{pair_at, ipv6_at, ipv4_at, two_at, one_at, as_at, hex_at, number_at, quote_at, name_at, taken, refused, or_else, token_at}
 use Rattle.tokens.specs.Tokens.{step_at}
 use Rattle.tokens.proofs.Steps.{taken_good}
-use Rattle.grammar.specs.Words.{words}
+use Rattle.grammar.specs.Words.{f_quote, text_then_hole, last_text}
 use Rattle.grammar.specs.Grammar.{Token, found}
 use Rattle.answers.specs.Source.{source, look_of, look_after, token_for}
 use Rattle.answers.proofs.Ahead.{Steps, steps_token, steps_over, steps_quote, steps_wrong, step_goes}
@@ -31,7 +31,6 @@ use Rattle.respell.specs.Shown.{placed, is_piece}
 use Rattle.respell.proofs.Rules.{text_copied}
 use Rattle.respell.proofs.Tokens.{Room, Said, token_said}
 use Rattle.respell.proofs.Skips.{skip_ge, skip_again, skip_blank, skip_copied}
-open words use {f-quote, text-then-hole, last-text}
 
 -- a token begins where the rules look for it, and so does `f"`
 abbrev Starts : ℕ → Step → Type 0
@@ -107,7 +106,7 @@ module _ {s t : List ℕ} {lo q q' : ℕ} (copy : Copied s t lo q q') (stop : is
 module _ (s : List ℕ) (i : ℕ) (x : Token) (j : ℕ) where
   pub data Seen : Type 0 where
     by_rule : (w a : ℕ) (n : Cursor) → step_at s i ≡ Taken w a n → x ≡ token_for w a n.at (literal_of (code_of w) (slice a n.at s)) → n.at ≡ j → Seen
-    by_quote : (r : Refusal) → step_at s i ≡ Refused r → r.number ≡ 5 → x ≡ token_for f-quote r.start r.end Literal.None → r.end ≡ j → Seen
+    by_quote : (r : Refusal) → step_at s i ≡ Refused r → r.number ≡ 5 → x ≡ token_for f_quote r.start r.end Literal.None → r.end ≡ j → Seen
 
   pub seen : (source s).look i ≡ found x j → Seen
   seen = by (step_at s i) refl
@@ -153,7 +152,7 @@ step_blank s i e = same_skip s i (i + 1) (skip_blank s i e)
 
 -- a word of the rules is no word of a piece
 no_piece : (w : ℕ) → w < 91 → T (not (is_piece w))
-no_piece w h = subst (λ (b : Bool). T (not b)) (sym (ap (λ (b : Bool). b || (eqb w last-text || false)) (ne_eqb w text-then-hole (λ e. omega arith)) ∙ ap (λ (b : Bool). b || false) (ne_eqb w last-text (λ e. omega arith)))) tt
+no_piece w h = subst (λ (b : Bool). T (not b)) (sym (ap (λ (b : Bool). b || (eqb w last_text || false)) (ne_eqb w text_then_hole (λ e. omega arith)) ∙ ap (λ (b : Bool). b || false) (ne_eqb w last_text (λ e. omega arith)))) tt
 
 -- a token begins at or behind the place where it is looked for, has a byte, is no piece of text, and ends in the source
 pub look_lies : (s : List ℕ) (i : ℕ) (x : Token) (j : ℕ) → (source s).look i ≡ found x j → (i ≤ x.start) × (x.start < j) × T (not (is_piece x.word)) × (j ≤ length s)
@@ -181,7 +180,7 @@ look_lies s i x j z = by (seen s i x j z)
         let o₁ = o.1 in
         let g = skip_ge s i in
         let b : r.start ≡ x.start = sym (ap (λ (o : Token). o.start) v) in
-        let c : f-quote ≡ x.word = sym (ap (λ (o : Token). o.word) v) in
+        let c : f_quote ≡ x.word = sym (ap (λ (o : Token). o.word) v) in
         (omega arith, omega arith, subst (λ (m : ℕ). T (not (is_piece m))) c tt, let f = quote_in (subst (Steps s i) e (step_goes s i)) m in omega arith)
       where
         starts : step_at s i ≡ Refused r → r.number ≡ 5 → (r.start ≡ skip_all s i) × (r.end ≡ skip_all s i + 2)

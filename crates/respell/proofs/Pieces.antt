@@ -15,22 +15,20 @@ use Rattle.texts.specs.declared.Mode.{Mode}
 use Rattle.texts.specs.declared.Mode.TheVariants.{Text, Escape, Letter, Code, Brace, Hole, Last, Torn}
 use Rattle.texts.specs.declared.Part.{Part}
 use Rattle.texts.specs.declared.Part.TheVariants.{Before, Ends, None}
-use Rattle.texts.specs.Signs.{signs}
+use Rattle.texts.specs.Signs.{backslash, quote, open_brace, close_brace, small_u, capital_u}
 use Rattle.texts.specs.Parts.{part_at}
 use Rattle.texts.specs.Modes.{mode_after, scans, ended_at, modes_from}
 use Rattle.texts.specs.Texts.{text_of}
 use Rattle.texts.proofs.Items.{stays, modes_part}
 use Rattle.texts.proofs.Parts.{Parted, parted_before, parted_ends, parted_none, part_lies}
 use Rattle.strings.specs.declared.Size.{Size}
-use Rattle.grammar.specs.Words.{words}
+use Rattle.grammar.specs.Words.{text_then_hole, last_text}
 use Rattle.grammar.specs.Grammar.{Token, found}
 use Rattle.answers.specs.Source.{source, text_token, piece_of}
 use Rattle.respell.specs.Copies.{Copied}
 use Rattle.respell.specs.Shown.{bare, is_piece}
 use Rattle.respell.proofs.Rules.{text_copied, first_of}
 use Rattle.respell.proofs.Skips.{front, in_two}
-open signs use {backslash, quote, open-brace, close-brace, small-u, capital-u}
-open words use {text-then-hole, last-text}
 
 -- how many bytes of what ends a piece a mode has read
 abbrev read : Mode → ℕ
@@ -49,11 +47,11 @@ read_cond false x y h k = k
 
 read_after : (m : Mode) (b : ℕ) → read (mode_after m b) ≤ read m + 1
 unfolding mode_after
-read_after Text b = read_cond (eqb b backslash) Escape (cond (eqb b open-brace) Brace (cond (eqb b quote) Last Text)) (omega arith) (read_cond (eqb b open-brace) Brace (cond (eqb b quote) Last Text) (omega arith) (read_cond (eqb b quote) Last Text (omega arith) (omega arith)))
-read_after Escape b = read_cond (eqb b small-u || eqb b capital-u) Letter Text (omega arith) (omega arith)
-read_after Letter b = read_cond (eqb b open-brace) Code Torn (omega arith) (omega arith)
-read_after Code b = read_cond (eqb b close-brace) Text Code (omega arith) (omega arith)
-read_after Brace b = read_cond (eqb b open-brace) Text Hole (omega arith) (omega arith)
+read_after Text b = read_cond (eqb b backslash) Escape (cond (eqb b open_brace) Brace (cond (eqb b quote) Last Text)) (omega arith) (read_cond (eqb b open_brace) Brace (cond (eqb b quote) Last Text) (omega arith) (read_cond (eqb b quote) Last Text (omega arith) (omega arith)))
+read_after Escape b = read_cond (eqb b small_u || eqb b capital_u) Letter Text (omega arith) (omega arith)
+read_after Letter b = read_cond (eqb b open_brace) Code Torn (omega arith) (omega arith)
+read_after Code b = read_cond (eqb b close_brace) Text Code (omega arith) (omega arith)
+read_after Brace b = read_cond (eqb b open_brace) Text Hole (omega arith) (omega arith)
 read_after Hole b = omega arith
 read_after Last b = omega arith
 read_after Torn b = omega arith
@@ -158,14 +156,14 @@ word_of_lem w a e (Size.Is n) = refl
 word_of_lem w a e Size.None = refl
 
 -- a piece doesn't go back, and one with no hole has its quote
-pub piece_lies : (s : List ℕ) (i : ℕ) (x : Token) (j : ℕ) → (source s).piece i ≡ found x j → (i ≤ j) × ((x.word ≡ text-then-hole) ⊎ (i < j))
+pub piece_lies : (s : List ℕ) (i : ℕ) (x : Token) (j : ℕ) → (source s).piece i ≡ found x j → (i ≤ j) × ((x.word ≡ text_then_hole) ⊎ (i < j))
 piece_lies s i x j z = by (part_at s i) (part_lies s i) z
   where
-    by : (p : Part) → Parted i (length s) p → piece_of s i p ≡ found x j → (i ≤ j) × ((x.word ≡ text-then-hole) ⊎ (i < j))
+    by : (p : Part) → Parted i (length s) p → piece_of s i p ≡ found x j → (i ≤ j) × ((x.word ≡ text_then_hole) ⊎ (i < j))
     by (Before e) (parted_before g k) f =
         let u : e ≡ j = cc in
-        let c : text_token text-then-hole i e (text_of (slice i e s)) ≡ x = cc in
-        (omega arith, inl (sym (ap (λ (o : Token). o.word) c) ∙ word_of_lem text-then-hole i e (text_of (slice i e s))))
+        let c : text_token text_then_hole i e (text_of (slice i e s)) ≡ x = cc in
+        (omega arith, inl (sym (ap (λ (o : Token). o.word) c) ∙ word_of_lem text_then_hole i e (text_of (slice i e s))))
     by (Ends e) (parted_ends g k) f = let u : e + 1 ≡ j = cc in (omega arith, inr (omega arith))
     by None parted_none f = let v : ◌≡◌ {A = ℕ} 0 1 = cc in absurd (omega arith)
 
@@ -186,17 +184,17 @@ not_last false x y h k z = k z
 
 last_after : (m : Mode) (b : ℕ) → scans m ≡ true → mode_after m b ≡ Last → b ≡ quote
 unfolding mode_after
-last_after Text b f z = by (eqb b backslash) (eqb b open-brace) (eqb b quote) refl z
+last_after Text b f z = by (eqb b backslash) (eqb b open_brace) (eqb b quote) refl z
   where
     by : (u v w : Bool) → eqb b quote ≡ w → cond u Escape (cond v Brace (cond w Last Text)) ≡ Last → b ≡ quote
     by true v w e z = let n : ◌≡◌ {A = ℕ} 0 1 = cc in absurd (omega arith)
     by false true w e z = let n : ◌≡◌ {A = ℕ} 0 1 = cc in absurd (omega arith)
     by false false true e z = eqb-true b quote e
     by false false false e z = let n : ◌≡◌ {A = ℕ} 0 1 = cc in absurd (omega arith)
-last_after Escape b f z = absurd (not_last (eqb b small-u || eqb b capital-u) Letter Text (λ o. let n : ◌≡◌ {A = ℕ} 0 1 = cc in omega arith) (λ o. let n : ◌≡◌ {A = ℕ} 0 1 = cc in omega arith) z)
-last_after Letter b f z = absurd (not_last (eqb b open-brace) Code Torn (λ o. let n : ◌≡◌ {A = ℕ} 0 1 = cc in omega arith) (λ o. let n : ◌≡◌ {A = ℕ} 0 1 = cc in omega arith) z)
-last_after Code b f z = absurd (not_last (eqb b close-brace) Text Code (λ o. let n : ◌≡◌ {A = ℕ} 0 1 = cc in omega arith) (λ o. let n : ◌≡◌ {A = ℕ} 0 1 = cc in omega arith) z)
-last_after Brace b f z = absurd (not_last (eqb b open-brace) Text Hole (λ o. let n : ◌≡◌ {A = ℕ} 0 1 = cc in omega arith) (λ o. let n : ◌≡◌ {A = ℕ} 0 1 = cc in omega arith) z)
+last_after Escape b f z = absurd (not_last (eqb b small_u || eqb b capital_u) Letter Text (λ o. let n : ◌≡◌ {A = ℕ} 0 1 = cc in omega arith) (λ o. let n : ◌≡◌ {A = ℕ} 0 1 = cc in omega arith) z)
+last_after Letter b f z = absurd (not_last (eqb b open_brace) Code Torn (λ o. let n : ◌≡◌ {A = ℕ} 0 1 = cc in omega arith) (λ o. let n : ◌≡◌ {A = ℕ} 0 1 = cc in omega arith) z)
+last_after Code b f z = absurd (not_last (eqb b close_brace) Text Code (λ o. let n : ◌≡◌ {A = ℕ} 0 1 = cc in omega arith) (λ o. let n : ◌≡◌ {A = ℕ} 0 1 = cc in omega arith) z)
+last_after Brace b f z = absurd (not_last (eqb b open_brace) Text Hole (λ o. let n : ◌≡◌ {A = ℕ} 0 1 = cc in omega arith) (λ o. let n : ◌≡◌ {A = ℕ} 0 1 = cc in omega arith) z)
 last_after Hole b f z = absurd (true≢false (sym f))
 last_after Last b f z = absurd (true≢false (sym f))
 last_after Torn b f z = absurd (true≢false (sym f))
@@ -227,11 +225,11 @@ quote_ends m k (b ∷ l) e f z = next (scans (mode_after m b)) refl (quote_ends 
         let r₁ = r.1 in
         (omega arith, omega arith, ap (byte_at (b ∷ l)) {x = e - k} {y = 0} (omega arith) ∙ front b l ∙ last_after m b f r.0)
 
-pub piece_quote : (s : List ℕ) (i : ℕ) (x : Token) (j : ℕ) → (source s).piece i ≡ found x j → (x.word ≡ text-then-hole → ⊥) → (e : ℕ) × (j ≡ e + 1) × (byte_at s e ≡ quote) × (e < length s)
+pub piece_quote : (s : List ℕ) (i : ℕ) (x : Token) (j : ℕ) → (source s).piece i ≡ found x j → (x.word ≡ text_then_hole → ⊥) → (e : ℕ) × (j ≡ e + 1) × (byte_at s e ≡ quote) × (e < length s)
 piece_quote s i x j z none = by (part_at s i) refl z
   where
     by : (p : Part) → part_at s i ≡ p → piece_of s i p ≡ found x j → (e : ℕ) × (j ≡ e + 1) × (byte_at s e ≡ quote) × (e < length s)
-    by (Before e) o f = let c : text_token text-then-hole i e (text_of (slice i e s)) ≡ x = cc in absurd (none (sym (ap (λ (v : Token). v.word) c) ∙ word_of_lem text-then-hole i e (text_of (slice i e s))))
+    by (Before e) o f = let c : text_token text_then_hole i e (text_of (slice i e s)) ≡ x = cc in absurd (none (sym (ap (λ (v : Token). v.word) c) ∙ word_of_lem text_then_hole i e (text_of (slice i e s))))
     by (Ends e) o f =
         let u : e + 1 ≡ j = cc in
         let r = quote_ends Text i (drop i s) e refl (modes_part s i ∙ o) in
@@ -242,7 +240,7 @@ piece_quote s i x j z none = by (part_at s i) refl z
     by None o f = let v : ◌≡◌ {A = ℕ} 0 1 = cc in absurd (omega arith)
 
 -- the last piece ends before that quote
-pub piece_last : (s : List ℕ) (i : ℕ) (x : Token) (j : ℕ) → (source s).piece i ≡ found x j → (x.word ≡ text-then-hole → ⊥) → (x.end + 1 ≡ j) × T (is_piece x.word)
+pub piece_last : (s : List ℕ) (i : ℕ) (x : Token) (j : ℕ) → (source s).piece i ≡ found x j → (x.word ≡ text_then_hole → ⊥) → (x.end + 1 ≡ j) × T (is_piece x.word)
 piece_last s i x j z none = by (part_at s i) z
   where
     ends : (w a e : ℕ) (n : Size) → (text_token w a e n).end ≡ e
@@ -250,11 +248,11 @@ piece_last s i x j z none = by (part_at s i) z
     ends w a e Size.None = refl
 
     by : (p : Part) → piece_of s i p ≡ found x j → (x.end + 1 ≡ j) × T (is_piece x.word)
-    by (Before e) f = let c : text_token text-then-hole i e (text_of (slice i e s)) ≡ x = cc in absurd (none (sym (ap (λ (v : Token). v.word) c) ∙ word_of_lem text-then-hole i e (text_of (slice i e s))))
+    by (Before e) f = let c : text_token text_then_hole i e (text_of (slice i e s)) ≡ x = cc in absurd (none (sym (ap (λ (v : Token). v.word) c) ∙ word_of_lem text_then_hole i e (text_of (slice i e s))))
     by (Ends e) f =
         let u : e + 1 ≡ j = cc in
-        let c : text_token last-text i e (text_of (slice i e s)) ≡ x = cc in
-        (ap (λ (n : ℕ). n + 1) (sym (ap (λ (v : Token). v.end) c) ∙ ends last-text i e (text_of (slice i e s))) ∙ u, subst (λ (n : ℕ). T (is_piece n)) (sym (word_of_lem last-text i e (text_of (slice i e s))) ∙ ap (λ (v : Token). v.word) c) tt)
+        let c : text_token last_text i e (text_of (slice i e s)) ≡ x = cc in
+        (ap (λ (n : ℕ). n + 1) (sym (ap (λ (v : Token). v.end) c) ∙ ends last_text i e (text_of (slice i e s))) ∙ u, subst (λ (n : ℕ). T (is_piece n)) (sym (word_of_lem last_text i e (text_of (slice i e s))) ∙ ap (λ (v : Token). v.word) c) tt)
     by None f = let v : ◌≡◌ {A = ℕ} 0 1 = cc in absurd (omega arith)
 
 -- a copy whose last byte is a quote
@@ -275,7 +273,7 @@ module _ {s t : List ℕ} {lo : ℕ} (q q' : ℕ) (copy : Copied s t lo (q + 1) 
       (subst (Moved (q + 1) (q' + 1) (modes_from Text i (x ++ drop (q + 1) s))) (ap (modes_from Text i') (sym a') ∙ modes_part t i') r)
 
   -- as the grammar sees it; a hole's piece ends before the quote
-  pub piece_copied : (i i' j j' : ℕ) (x : Token) → lo ≤ i → i ≤ q → i + q' ≡ i' + q → (source s).piece i ≡ found x j → j ≤ q + 1 → (x.word ≡ text-then-hole → j ≤ q) → j + q' ≡ j' + q
+  pub piece_copied : (i i' j j' : ℕ) (x : Token) → lo ≤ i → i ≤ q → i + q' ≡ i' + q → (source s).piece i ≡ found x j → j ≤ q + 1 → (x.word ≡ text_then_hole → j ≤ q) → j + q' ≡ j' + q
       → (y : Token) × ((source t).piece i' ≡ found y j') × (bare y ≡ bare x) × T (is_piece x.word)
   piece_copied i i' j j' x l h at z top hole to = by (part_at s i) (part_copied i i' l h at) (part_lies s i) z
     where
@@ -294,17 +292,17 @@ module _ {s t : List ℕ} {lo : ℕ} (q q' : ℕ) (copy : Copied s t lo (q + 1) 
       by : (p : Part) → Moved (q + 1) (q' + 1) p (part_at t i') → Parted i (length s) p → piece_of s i p ≡ found x j → (y : Token) × ((source t).piece i' ≡ found y j') × (bare y ≡ bare x) × T (is_piece x.word)
       by (Before e) m (parted_before g k) f =
           let u : e ≡ j = cc in
-          let c : text_token text-then-hole i e (text_of (slice i e s)) ≡ x = cc in
-          let b = hole (sym (ap (λ (o : Token). o.word) c) ∙ word_of_lem text-then-hole i e (text_of (slice i e s))) in
+          let c : text_token text_then_hole i e (text_of (slice i e s)) ≡ x = cc in
+          let b = hole (sym (ap (λ (o : Token). o.word) c) ∙ word_of_lem text_then_hole i e (text_of (slice i e s))) in
           let d = m (omega arith) j' (omega arith) in
-          let r = same text-then-hole e j' tt c g (omega arith) (omega arith) in
-          (text_token text-then-hole i' j' (text_of (slice i' j' t)), ap (piece_of t i') d, r.0, r.1)
+          let r = same text_then_hole e j' tt c g (omega arith) (omega arith) in
+          (text_token text_then_hole i' j' (text_of (slice i' j' t)), ap (piece_of t i') d, r.0, r.1)
       by (Ends e) m (parted_ends g k) f =
           let u : e + 1 ≡ j = cc in
-          let c : text_token last-text i e (text_of (slice i e s)) ≡ x = cc in
+          let c : text_token last_text i e (text_of (slice i e s)) ≡ x = cc in
           let e' : ℕ = i' + (e - i) in
           let d = m (omega arith) e' (omega arith) in
-          let r = same last-text e e' tt c g (omega arith) (omega arith) in
+          let r = same last_text e e' tt c g (omega arith) (omega arith) in
           let n : e' + 1 ≡ j' = omega arith in
-          (text_token last-text i' e' (text_of (slice i' e' t)), ap (piece_of t i') d ∙ ap (found (text_token last-text i' e' (text_of (slice i' e' t)))) n, r.0, r.1)
+          (text_token last_text i' e' (text_of (slice i' e' t)), ap (piece_of t i') d ∙ ap (found (text_token last_text i' e' (text_of (slice i' e' t)))) n, r.0, r.1)
       by None m parted_none f = let v : ◌≡◌ {A = ℕ} 0 1 = cc in absurd (omega arith)

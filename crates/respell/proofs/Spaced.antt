@@ -11,12 +11,12 @@ use borrow.Author.Tests.{eqb-true}
 use Rattle.chars.specs.Chars.{byte_at, is_blank}
 use Rattle.tokens.specs.Words.{Entry, two_signs, one_signs, keywords, code_of}
 use Rattle.tokens.specs.Blanks.{skipped, skip_all}
-use Rattle.texts.specs.Signs.{signs}
+use Rattle.texts.specs.Signs.{quote}
 use Rattle.values.specs.declared.Literal.{Literal}
-use Rattle.grammar.specs.Words.{words}
+use Rattle.grammar.specs.Words.{f_quote, text_then_hole, last_text}
 use Rattle.grammar.specs.Grammar.{Ask, Symbol, Token, found, Language, In, alternatives, one_of}
 use Rattle.grammar.specs.Limits.{Counts}
-use Rattle.grammar.specs.Kinds.{phrases}
+use Rattle.grammar.specs.Kinds.{HOLE}
 use Rattle.answers.specs.Source.{source, look_of, token_for}
 use Rattle.answers.proofs.Ahead.{left_true, right_true}
 use Rattle.answers.proofs.Opened.{lexer}
@@ -28,9 +28,6 @@ use Rattle.respell.proofs.Skips.{in_two, skip_blank}
 use Rattle.respell.proofs.Looks.{look_lies, look_end, look_again, same_skip}
 use Rattle.respell.proofs.FStrings.{append, onward, closes, all_quoted, quoted_shown}
 use Rattle.respell.proofs.Respelled.{copy_of, stop_byte, blank_stops, newline_stops, look_respelled, spells, all_of, every_word_spells, sign_look}
-open signs use {quote}
-open words use {f-quote, text-then-hole, last-text}
-open phrases use {HOLE}
 
 -- what stands behind each: a blank, and the rest
 pub record Behind (x : Bit) (bs : List Bit) : Type 0 where
@@ -69,17 +66,17 @@ found_word (x ∷ xs) c h g = by (eqb c x.word) refl h (λ k. found_word xs c k 
 -- a sign's word is no word of a piece
 pub no_piece_sign : (c : ℕ) → is_sign c ≡ true → T (not (is_piece c))
 unfolding lexer
-no_piece_sign c h = by (eqb c text-then-hole) refl (eqb c last-text) refl
+no_piece_sign c h = by (eqb c text_then_hole) refl (eqb c last_text) refl
   where
-    by : (a : Bool) → eqb c text-then-hole ≡ a → (b : Bool) → eqb c last-text ≡ b → T (not (a || (b || false)))
-    by true e b f = absurd (true≢false (sym h ∙ ap is_sign (eqb-true c text-then-hole e)))
-    by false e true f = absurd (true≢false (sym h ∙ ap is_sign (eqb-true c last-text f)))
+    by : (a : Bool) → eqb c text_then_hole ≡ a → (b : Bool) → eqb c last_text ≡ b → T (not (a || (b || false)))
+    by true e b f = absurd (true≢false (sym h ∙ ap is_sign (eqb-true c text_then_hole e)))
+    by false e true f = absurd (true≢false (sym h ∙ ap is_sign (eqb-true c last_text f)))
     by false e false f = tt
 
-other_word : (c : ℕ) → T (not (eqb c f-quote)) → c ≡ f-quote → ⊥
-other_word c h e = subst (λ (n : ℕ). T (not (eqb n f-quote))) e h
+other_word : (c : ℕ) → T (not (eqb c f_quote)) → c ≡ f_quote → ⊥
+other_word c h e = subst (λ (n : ℕ). T (not (eqb n f_quote))) e h
 
-module _ (s w : List ℕ) (l : Language) (hole-word : l.hole ≡ text-then-hole) (holes : (b : List Symbol) → In b (alternatives l HOLE) → b ≡ hole_symbols) (quotes : T (all_quoted l.rules)) (G : Ask → Counts → Token → Bool) where
+module _ (s w : List ℕ) (l : Language) (hole-word : l.hole ≡ text_then_hole) (holes : (b : List Symbol) → In b (alternatives l HOLE) → b ≡ hole_symbols) (quotes : T (all_quoted l.rules)) (G : Ask → Counts → Token → Bool) where
   abbrev Q : Token → Token → Type 0
   Q = Again s w l G
 

@@ -1,16 +1,14 @@
 -- How a source shows a list of tokens. Only proofs cite this, and nobody needs to believe it.
 use Rattle.std.specs.Prelude.{◌≡◌, List, [], ◌∷◌, ◌++◌, Bool, not, ℕ, ◌+◌, ◌<◌, ◌≤◌, T}
-use Rattle.rows.specs.Kinds.{kinds}
-use Rattle.grammar.specs.Words.{words}
+use Rattle.rows.specs.Kinds as kinds
+use Rattle.grammar.specs.Words.{f_quote, text_then_hole, last_text}
 use Rattle.grammar.specs.Grammar.{Ask, Symbol, text, Token, found, Stream, Parts, end, leaf, node, mark, Language, one_of}
 use Rattle.grammar.specs.Limits.{Counts}
-use Rattle.grammar.specs.Kinds.{phrases}
+use Rattle.grammar.specs.Kinds.{HOLE}
 use Rattle.grammar.specs.Table.{row}
 use Rattle.grammar.specs.Readings.{ReadingBy}
 use Rattle.answers.specs.Source.{source}
 use Rattle.respell.specs.Copies.{Copied}
-open words use {f-quote, text-then-hole, last-text}
-open phrases use {HOLE}
 
 -- a token at other bytes, and at none
 abbrev pub placed : Token → ℕ → ℕ → Token
@@ -25,11 +23,11 @@ Like x y = bare y ≡ bare x
 
 -- the words of pieces of text
 abbrev pub is_piece : ℕ → Bool
-is_piece w = one_of w (text-then-hole ∷ last-text ∷ [])
+is_piece w = one_of w (text_then_hole ∷ last_text ∷ [])
 
 -- what stands behind an f-string's `f"`, as the grammar has it
 abbrev pub tail_symbols : List Symbol
-tail_symbols = text HOLE ∷ row kinds.F-STRING ∷ []
+tail_symbols = text HOLE ∷ row kinds.F_STRING ∷ []
 
 -- t has a copy of bytes of s, x stands in them, and y is where x was copied to; if x is `f"`, its f-string lies in them up to the quote.
 pub record Moved (s t : List ℕ) (l : Language) (G : Ask → Counts → Token → Bool) (x y : Token) : Type 0 where
@@ -41,7 +39,7 @@ pub record Moved (s t : List ℕ) (l : Language) (G : Ask → Counts → Token �
   pub to : x.end ≤ q
   pub starts : x.start + q' ≡ y.start + q
   pub ends : x.end + q' ≡ y.end + q
-  pub reach : x.word ≡ f-quote → (d : Counts) × (r : ℕ) × (p : Parts) × ReadingBy (source s) l G d tail_symbols x.end r p × (r ≤ q)
+  pub reach : x.word ≡ f_quote → (d : Counts) × (r : ℕ) × (p : Parts) × ReadingBy (source s) l G d tail_symbols x.end r p × (r ≤ q)
 
 -- y of t stands for x: the same but for its bytes, and copied if x is a token with bytes in s
 pub record Again (s t : List ℕ) (l : Language) (G : Ask → Counts → Token → Bool) (x y : Token) : Type 0 where

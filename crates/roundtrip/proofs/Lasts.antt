@@ -7,9 +7,9 @@ use Prim.Native.Nat.{ℕ}
 use native.Mathlib.Omega.{arith}
 use lib.ListN.{length}
 use lib.Dec.{T, T_not, eqb, eqb→eq}
-use Rattle.grammar.specs.Words.{words}
+use Rattle.grammar.specs.Words.{text_then_hole, last_text}
 use Rattle.grammar.specs.Grammar.{Ask, In, Symbol, token, phrase, unless, note, left_side, text, same, Token, found, over, Parts, one_of, alternatives}
-use Rattle.grammar.specs.Kinds.{phrases}
+use Rattle.grammar.specs.Kinds.{TREE, DECLARATIONS, DECLARATION, IMPORT, BLOCK}
 use Rattle.grammar.specs.Limits.{Counts}
 use Rattle.grammar.specs.Language.{roto, start}
 use Rattle.grammar.specs.Culprit.{look_at, piece_at, lists}
@@ -21,8 +21,6 @@ use Rattle.grammar.proofs.Checks.{roto_full}
 use Rattle.printing.specs.Spelled.{leaves, line_words}
 use Rattle.printing.proofs.Lists.{l}
 use Rattle.respell.proofs.Readings.{roto_solid, takes}
-open words use {text-then-hole, last-text}
-open phrases use {TREE, DECLARATIONS, DECLARATION, IMPORT, BLOCK}
 
 -- no token has the word 0
 abbrev pub nonzero : List Token → Bool
@@ -51,12 +49,12 @@ pub looked : (c c' : List Token) (x : Token) → look_at c ≡ found x c' → c 
 looked [] c' x e = let v : ◌≡◌ {A = ℕ} 0 1 = cc in absurd (omega arith)
 looked (y ∷ c) c' x e = let u : y ≡ x = cc in let v : c ≡ c' = cc in cc
 
-pub pieced : (c c' : List Token) (x : Token) → piece_at c ≡ found x c' → (c ≡ x ∷ c') × T (one_of x.word (text-then-hole ∷ last-text ∷ []))
+pub pieced : (c c' : List Token) (x : Token) → piece_at c ≡ found x c' → (c ≡ x ∷ c') × T (one_of x.word (text_then_hole ∷ last_text ∷ []))
 pieced [] c' x e = let v : ◌≡◌ {A = ℕ} 0 1 = cc in absurd (omega arith)
-pieced (y ∷ c) c' x e = by (one_of y.word (text-then-hole ∷ last-text ∷ [])) refl e
+pieced (y ∷ c) c' x e = by (one_of y.word (text_then_hole ∷ last_text ∷ [])) refl e
   where
-    by : (b : Bool) → one_of y.word (text-then-hole ∷ last-text ∷ []) ≡ b → cond b (found y c) over ≡ found x c' → (y ∷ c ≡ x ∷ c') × T (one_of x.word (text-then-hole ∷ last-text ∷ []))
-    by true f k = let u : y ≡ x = cc in let v : c ≡ c' = cc in (cc, subst (λ (z : Token). T (one_of z.word (text-then-hole ∷ last-text ∷ []))) u (subst T (sym f) tt))
+    by : (b : Bool) → one_of y.word (text_then_hole ∷ last_text ∷ []) ≡ b → cond b (found y c) over ≡ found x c' → (y ∷ c ≡ x ∷ c') × T (one_of x.word (text_then_hole ∷ last_text ∷ []))
+    by true f k = let u : y ≡ x = cc in let v : c ≡ c' = cc in (cc, subst (λ (z : Token). T (one_of z.word (text_then_hole ∷ last_text ∷ []))) u (subst T (sym f) tt))
     by false f k = let v : ◌≡◌ {A = ℕ} 0 1 = cc in absurd (omega arith)
 
 other : (w : List ℕ) (c : ℕ) → T (one_of c w) → T (not (one_of 0 w)) → T (not (eqb c 0))
@@ -74,7 +72,7 @@ module _ {G : Ask → Counts → Token → Bool} where
   worded (reads_unless m v) h u = worded v h u
   worded (reads_note v) h u = worded v h u
   worded (reads_side {n = n} {n₁ = m} {s = t} {p = p} o v k w) h u = worded v (passes_at (λ n b. no_zero b) l.rules n all_no_zero o) (worded w (zero_if (l.is_path p) m t h) u)
-  worded (reads_text {n = n} {s = t} {x = x} {i = c} {j = c'} e k v) h u = let f = pieced c c' x e in subst (λ (o : List Token). T (nonzero o)) (sym f.0) (both (not (eqb x.word 0)) (nonzero c') (other (text-then-hole ∷ last-text ∷ []) x.word f.1 tt) (worded v (zero_if (eqb x.word l.hole) n t h) u))
+  worded (reads_text {n = n} {s = t} {x = x} {i = c} {j = c'} e k v) h u = let f = pieced c c' x e in subst (λ (o : List Token). T (nonzero o)) (sym f.0) (both (not (eqb x.word 0)) (nonzero c') (other (text_then_hole ∷ last_text ∷ []) x.word f.1 tt) (worded v (zero_if (eqb x.word l.hole) n t h) u))
 
   pub all_worded : {d : Counts} {c : List Token} {p : Parts} → ReadingBy lists l G d (start true) c [] p → T (nonzero c)
   all_worded u = worded u tt tt

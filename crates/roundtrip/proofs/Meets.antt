@@ -7,8 +7,8 @@ use Prim.Native.Nat.{ℕ, ◌+◌}
 use native.Mathlib.Omega.{arith}
 use lib.Dec.{T, T_not, eqb, eqb→eq}
 use lib.Seq.{slice}
-use Rattle.rows.specs.Kinds.{kinds}
-use Rattle.grammar.specs.Words.{words}
+use Rattle.rows.specs.Kinds as kinds
+use Rattle.grammar.specs.Words.{f_quote, text_then_hole, last_text, semicolon, open_brace, close_brace}
 use Rattle.grammar.specs.Grammar.{Ask, plain, Token, found, Parts, end, leaf, node, mark, one_of}
 use Rattle.grammar.specs.Limits.{Counts, after, kept}
 use Rattle.grammar.specs.Readings.{ReadingBy, reads_token}
@@ -28,7 +28,6 @@ use Rattle.respell.proofs.Looks.{look_end}
 use Rattle.respell.proofs.FStrings.{roto_hole, roto_holes, LastPiece, lasts}
 use Rattle.roundtrip.proofs.Signs.{sure_word, sure_bits}
 use Rattle.roundtrip.proofs.Lasts.{nonzero, last_in, last_two}
-open words use {f-quote, text-then-hole, last-text, semicolon, open-brace, close-brace}
 
 pub same_leaves : (p : Parts) → leaves p ≡ tokens_of p
 unfolding tokens_of
@@ -54,8 +53,8 @@ last_on (x ∷ xs) ts h = last_on xs ts (off (xs ++ ts) h)
     off (y ∷ ys) k = k
 
 -- the text that a row copies
-pub copied_text : (s : List ℕ) (k a e : ℕ) (xs : List Token) → T (one_of k copied) → starts xs ≡ a → cond (eqb k kinds.F-STRING) (ends xs + 1) (ends xs) ≡ e → bytes_of s k xs ≡ slice a e s
-copied_text s k a e xs m f g = ap (λ (b : Bool). cond b (slice (starts xs) (cond (eqb k kinds.F-STRING) (ends xs + 1) (ends xs)) s) []) (T→eq (one_of k copied) m) ∙ ap (λ (i : ℕ). slice i (cond (eqb k kinds.F-STRING) (ends xs + 1) (ends xs)) s) f ∙ ap (λ (i : ℕ). slice a i s) g
+pub copied_text : (s : List ℕ) (k a e : ℕ) (xs : List Token) → T (one_of k copied) → starts xs ≡ a → cond (eqb k kinds.F_STRING) (ends xs + 1) (ends xs) ≡ e → bytes_of s k xs ≡ slice a e s
+copied_text s k a e xs m f g = ap (λ (b : Bool). cond b (slice (starts xs) (cond (eqb k kinds.F_STRING) (ends xs + 1) (ends xs)) s) []) (T→eq (one_of k copied) m) ∙ ap (λ (i : ℕ). slice i (cond (eqb k kinds.F_STRING) (ends xs + 1) (ends xs)) s) f ∙ ap (λ (i : ℕ). slice a i s) g
 
 -- an f-string in a source: its `f"`, and what is read behind it up to the quote; its text
 pub record Stringed (s : List ℕ) (G : Ask → Counts → Token → Bool) (xs : List Token) : Type 0 where
@@ -66,10 +65,10 @@ pub record Stringed (s : List ℕ) (G : Ask → Counts → Token → Bool) (xs :
   pub rest : Parts
   pub quote : ℕ
   pub seen : (source s).look at ≡ found first next
-  pub word : first.word ≡ f-quote
+  pub word : first.word ≡ f_quote
   pub reading : ReadingBy (source s) l G counts tail_symbols next (quote + 1) rest
   pub are : xs ≡ first ∷ tokens_of rest
-  pub bytes : bytes_of s kinds.F-STRING xs ≡ slice first.start (quote + 1) s
+  pub bytes : bytes_of s kinds.F_STRING xs ≡ slice first.start (quote + 1) s
 
 module _ (s : List ℕ) (G : Ask → Counts → Token → Bool) where
   abbrev pub Last : Parts → ℕ → Type 0
@@ -94,34 +93,34 @@ module _ (s : List ℕ) (G : Ask → Counts → Token → Bool) where
         rest = p;
         quote = q;
         seen = e;
-        word = elim (or_cases (eqb x.word f-quote) false m) [ inl y ↦ eqb→eq x.word f-quote y | inr y ↦ absurd y ];
+        word = elim (or_cases (eqb x.word f_quote) false m) [ inl y ↦ eqb→eq x.word f_quote y | inr y ↦ absurd y ];
         reading = subst (λ (n : ℕ). ReadingBy (source s) l G (after plain d) tail_symbols j n p) (sym z.there) u;
         are = are;
-        bytes = copied_text s kinds.F-STRING x.start (q + 1) xs tt (ap starts are) (ap (λ (n : ℕ). n + 1) end_is);
+        bytes = copied_text s kinds.F_STRING x.start (q + 1) xs tt (ap starts are) (ap (λ (n : ℕ). n + 1) end_is);
       }
 
 -- no token is an f-string's row
-pub token_row : (s : List ℕ) (k : ℕ) (x : Token) (i j : ℕ) → (eqb k kinds.F-STRING ≡ false) ⊎ (k ≡ x.kind) → (source s).look i ≡ found x j → eqb k kinds.F-STRING ≡ false
-token_row s k x i j f e = elim f [ inl y ↦ y | inr y ↦ ap (λ (n : ℕ). eqb n kinds.F-STRING) y ∙ token_kinded s i x j e ]
+pub token_row : (s : List ℕ) (k : ℕ) (x : Token) (i j : ℕ) → (eqb k kinds.F_STRING ≡ false) ⊎ (k ≡ x.kind) → (source s).look i ≡ found x j → eqb k kinds.F_STRING ≡ false
+token_row s k x i j f e = elim f [ inl y ↦ y | inr y ↦ ap (λ (n : ℕ). eqb n kinds.F_STRING) y ∙ token_kinded s i x j e ]
 
-pub token_bytes : (s : List ℕ) (k : ℕ) (x : Token) (i j : ℕ) → T (one_of k copied) → (eqb k kinds.F-STRING ≡ false) ⊎ (k ≡ x.kind) → (source s).look i ≡ found x j → bytes_of s k (x ∷ []) ≡ slice x.start j s
+pub token_bytes : (s : List ℕ) (k : ℕ) (x : Token) (i j : ℕ) → T (one_of k copied) → (eqb k kinds.F_STRING ≡ false) ⊎ (k ≡ x.kind) → (source s).look i ≡ found x j → bytes_of s k (x ∷ []) ≡ slice x.start j s
 token_bytes s k x i j m f e = copied_text s k x.start j (x ∷ []) m refl (ap (λ (b : Bool). cond b (x.end + 1) x.end) (token_row s k x i j f e) ∙ look_end s i x j e)
 
 -- a token that is copied by itself is no `f"`
-no_quote : (c : ℕ) → T (not (one_of c sign_words)) → T (not (eqb c f-quote))
-no_quote c h = by (eqb c f-quote) refl
+no_quote : (c : ℕ) → T (not (one_of c sign_words)) → T (not (eqb c f_quote))
+no_quote c h = by (eqb c f_quote) refl
   where
-    by : (b : Bool) → eqb c f-quote ≡ b → T (not b)
-    by true e = absurd (T_not (one_of c sign_words) h (subst (λ (n : ℕ). T (one_of n sign_words)) (sym (eqb→eq c f-quote (subst T (sym e) tt))) tt))
+    by : (b : Bool) → eqb c f_quote ≡ b → T (not b)
+    by true e = absurd (T_not (one_of c sign_words) h (subst (λ (n : ℕ). T (one_of n sign_words)) (sym (eqb→eq c f_quote (subst T (sym e) tt))) tt))
     by false e = tt
 
 module _ (s : List ℕ) where
-  quote_spelt : {bs : List Bit} {ts : List Token} {d : Counts} {i r : ℕ} {p : Parts} (xs : List Token) → ReadingBy (source s) l kept d string_symbols i r p → xs ≡ leaves p → Spelt s l kept bs ts → Spelt s l kept (copy (bytes_of s kinds.F-STRING xs) ∷ bs) (xs ++ ts)
+  quote_spelt : {bs : List Bit} {ts : List Token} {d : Counts} {i r : ℕ} {p : Parts} (xs : List Token) → ReadingBy (source s) l kept d string_symbols i r p → xs ≡ leaves p → Spelt s l kept bs ts → Spelt s l kept (copy (bytes_of s kinds.F_STRING xs) ∷ bs) (xs ++ ts)
   quote_spelt {bs = bs} {ts = ts} xs u h v =
       let z = stringed s kept xs u h in
       subst (λ (b : List ℕ). Spelt s l kept (copy b ∷ bs) (xs ++ ts)) (sym z.bytes) (subst (λ (o : List Token). Spelt s l kept (copy (slice z.first.start (z.quote + 1) s) ∷ bs) (o ++ ts)) (sym z.are) (spelt_string z.counts z.at z.next z.quote z.seen z.word z.reading v))
 
-  token_spelt : {bs : List Bit} {ts : List Token} (k : ℕ) (x : Token) (i j : ℕ) → T (one_of k copied) → (eqb k kinds.F-STRING ≡ false) ⊎ (k ≡ x.kind) → (source s).look i ≡ found x j → T (not (one_of x.word sign_words)) → Spelt s l kept bs ts → Spelt s l kept (copy (bytes_of s k (x ∷ [])) ∷ bs) (x ∷ ts)
+  token_spelt : {bs : List Bit} {ts : List Token} (k : ℕ) (x : Token) (i j : ℕ) → T (one_of k copied) → (eqb k kinds.F_STRING ≡ false) ⊎ (k ≡ x.kind) → (source s).look i ≡ found x j → T (not (one_of x.word sign_words)) → Spelt s l kept bs ts → Spelt s l kept (copy (bytes_of s k (x ∷ [])) ∷ bs) (x ∷ ts)
   token_spelt {bs} {ts} k x i j m f e w v = subst (λ (b : List ℕ). Spelt s l kept (copy b ∷ bs) (x ∷ ts)) (sym (token_bytes s k x i j m f e)) (spelt_token i j e (no_quote x.word w) v)
 
   copy_spelt : {bs : List Bit} {ts : List Token} (k : ℕ) (xs : List Token) → T (one_of k copied) → Stands (source s) l kept k xs → Spelt s l kept bs ts → Spelt s l kept (copy (bytes_of s k xs) ∷ bs) (xs ++ ts)
@@ -139,10 +138,10 @@ module _ (s : List ℕ) where
   quote_last {d = d} {r = r} xs (reads_token {x = x} {j = j} {p = p} e m k u) h t =
       let z = string_last s kept (after plain d) j r p u in
       let are : xs ≡ (x ∷ z.earlier) ++ (z.final ∷ []) = h ∙ ap (λ (o : List Token). x ∷ o) (same_leaves p ∙ z.tokens) in
-      T_not (one_of z.final.word line_words) (apart (text-then-hole ∷ last-text ∷ []) line_words z.final.word tt z.piece) (subst T (ap last_in are ∙ last_two (x ∷ z.earlier) z.final) t)
+      T_not (one_of z.final.word line_words) (apart (text_then_hole ∷ last_text ∷ []) line_words z.final.word tt z.piece) (subst T (ap last_in are ∙ last_two (x ∷ z.earlier) z.final) t)
 
   ends_none : (c : ℕ) → T (not (one_of c sign_words)) → T (not (one_of c line_words))
-  ends_none c h = go (eqb c semicolon) (eqb c open-brace) (eqb c close-brace) _ h
+  ends_none c h = go (eqb c semicolon) (eqb c open_brace) (eqb c close_brace) _ h
     where
       go : (a b d e : Bool) → T (not (a || (b || (d || e)))) → T (not (a || (b || (d || false))))
       go true b d e t = t

@@ -6,7 +6,7 @@ use Prim.Native.Nat.{ℕ}
 use lib.Dec.{T}
 use lib.ListN.{length}
 use Rattle.grammar.specs.Grammar.{Ask, plain, has_value, opens_bracket, closes_bracket, is_prefix, is_head, is_else_if, Symbol, Token, Stream, Parts}
-use Rattle.grammar.specs.Kinds.{phrases}
+use Rattle.grammar.specs.Kinds.{TREE}
 use Rattle.grammar.specs.Limits.{Counts, zeros, kept}
 use Rattle.grammar.specs.Readings.{ReadingBy, reads_end, reads_token, reads_phrase, reads_unless, reads_note, reads_side, reads_text}
 use Rattle.grammar.specs.Language.{roto, start}
@@ -38,7 +38,6 @@ use Rattle.roundtrip.proofs.Lasts.{all_worded, last_ends}
 use Rattle.roundtrip.proofs.Meets.{spelt, spells_last}
 use Rattle.roundtrip.proofs.Twins.{paired}
 use Rattle.roundtrip.proofs.Texts.{labelled_same}
-open phrases use {TREE}
 
 turned : {p q : Parts} → Match Like p q → Match (λ x y. bare_token x ≡ bare_token y) p q
 turned match_end = match_end

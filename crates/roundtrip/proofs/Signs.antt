@@ -3,8 +3,8 @@ use mathlib.Core.List.{List, [], ◌∷◌, ◌++◌}
 use mathlib.Core.Bool.{Bool, true, false, not, ◌&&◌, ◌||◌, cond}
 use Prim.Native.Nat.{ℕ, zero, suc, pred}
 use lib.Dec.{T, eqb}
-use Rattle.rows.specs.Kinds.{kinds}
-use Rattle.grammar.specs.Words.{assign_signs, binary_signs, return_words, filter_words, words}
+use Rattle.rows.specs.Kinds as kinds
+use Rattle.grammar.specs.Words.{'->', open_brace, close_brace, open_paren, close_paren, open_bracket, close_bracket, ':', semicolon, comma, dot, '=', 'else', 'if', assign_signs, binary_signs, return_words, filter_words}
 use Rattle.grammar.specs.Grammar.{one_of}
 use Rattle.grammar.proofs.Bools.{and_l, and_r, both}
 use Rattle.answers.proofs.Opened.{lexer}
@@ -14,7 +14,6 @@ use Rattle.canon.specs.Layout as canon
 use Rattle.canon.specs.Text.{Bit, sign, copy, signs, paired, inner, place_of, words_of, later, fill, tokens}
 use Rattle.printing.specs.Pairs.{in_pairs}
 use Rattle.respell.specs.Spelt.{is_sign}
-open words use {'->', open-brace, close-brace, open-paren, close-paren, open-bracket, close-bracket, ':', semicolon, comma, dot, '=', 'else', 'if'}
 
 -- a sign or keyword, or the word 0, which no token has
 unfoldable pub sure_word : ℕ → Bool
@@ -73,13 +72,13 @@ closing_sure false = tt
 headed_sure : (r b : Bool) (ts : Forest) → T (sure_slots (headed r b ts))
 unfolding lexer sure_word
 headed_sure r b none = tt
-headed_sure r b (tree a k t) = go (eqb a.kind kinds.TYPED-NAME) r (headed_sure r false t)
+headed_sure r b (tree a k t) = go (eqb a.kind kinds.TYPED_NAME) r (headed_sure r false t)
   where
-    begun : T (sure (cond b (open-paren ∷ []) (comma ∷ [])))
-    begun = either b (open-paren ∷ []) (comma ∷ []) tt tt
+    begun : T (sure (cond b (open_paren ∷ []) (comma ∷ [])))
+    begun = either b (open_paren ∷ []) (comma ∷ []) tt tt
 
-    go : (p q : Bool) → T (sure_slots (headed r false t)) → T (sure_slots (cond p ((cond b (open-paren ∷ []) (comma ∷ []) then whole) ∷ headed r false t) (cond q ((canon.closing b ++ ('->' ∷ []) then whole) ∷ ([] then whole) ∷ []) ((canon.closing b then whole) ∷ []))))
-    go true q h = both (sure (cond b (open-paren ∷ []) (comma ∷ []))) (sure_slots (headed r false t)) begun h
+    go : (p q : Bool) → T (sure_slots (headed r false t)) → T (sure_slots (cond p ((cond b (open_paren ∷ []) (comma ∷ []) then whole) ∷ headed r false t) (cond q ((canon.closing b ++ ('->' ∷ []) then whole) ∷ ([] then whole) ∷ []) ((canon.closing b then whole) ∷ []))))
+    go true q h = both (sure (cond b (open_paren ∷ []) (comma ∷ []))) (sure_slots (headed r false t)) begun h
     go false true h = both (sure (canon.closing b ++ ('->' ∷ []))) true (two (canon.closing b) ('->' ∷ []) (closing_sure b) tt) tt
     go false false h = both (sure (canon.closing b)) true (closing_sure b) tt
 
@@ -89,11 +88,11 @@ between_sure k = either (is_expr k && not (is_four k)) (semicolon ∷ []) [] tt 
 
 behind_sure : (v k : ℕ) → T (sure (behind v k))
 unfolding lexer sure_word
-behind_sure v k = either (is_expr k && eqb v 0) (semicolon ∷ close-brace ∷ []) (close-brace ∷ []) tt tt
+behind_sure v k = either (is_expr k && eqb v 0) (semicolon ∷ close_brace ∷ []) (close_brace ∷ []) tt tt
 
 statements_good : (v : ℕ) (w : List ℕ) (ts : Forest) → T (sure w) → Good (statements v w ts)
 unfolding lexer sure_word
-statements_good v w none h = (tt, two w (close-brace ∷ []) h tt)
+statements_good v w none h = (tt, two w (close_brace ∷ []) h tt)
 statements_good v w (tree a k none) h = (both (sure w) true h tt, behind_sure v a.kind)
 statements_good v w (tree a k (tree b j t)) h = let r = statements_good v (between a.kind) (tree b j t) (between_sure a.kind) in (both (sure w) (sure_slots (statements v (between a.kind) (tree b j t)).slots) h r.0, r.1)
 
@@ -111,8 +110,8 @@ arm_good m v ts = either_good (eqb v 0) (body m (first_kind ts)) (by ('if' ∷ [
 
 imports_good : (f g : Bool) (ts : Forest) → Good (imports f g ts)
 unfolding lexer sure_word
-imports_good f g none = (tt, either g (close-brace ∷ []) [] tt tt)
-imports_good f g (tree a k t) = either_good (eqb a.kind kinds.NAME) _ _ (by_good (cond f [] (dot ∷ [])) whole (imports false false t) (either f [] (dot ∷ []) tt tt) (imports_good false false t)) (by_good (cond g (comma ∷ []) (dot ∷ open-brace ∷ [])) whole (imports false true t) (either g (comma ∷ []) (dot ∷ open-brace ∷ []) tt tt) (imports_good false true t))
+imports_good f g none = (tt, either g (close_brace ∷ []) [] tt tt)
+imports_good f g (tree a k t) = either_good (eqb a.kind kinds.NAME) _ _ (by_good (cond f [] (dot ∷ [])) whole (imports false false t) (either f [] (dot ∷ []) tt tt) (imports_good false false t)) (by_good (cond g (comma ∷ []) (dot ∷ open_brace ∷ [])) whole (imports false true t) (either g (comma ∷ []) (dot ∷ open_brace ∷ []) tt tt) (imports_good false true t))
 
 zero_sure : T (sure_word 0)
 unfolding lexer sure_word
@@ -148,9 +147,9 @@ all_good c v d ts = (
       (
         (tt, tt),
         (
-          only_good (eqb v 0) (done []) (list_in open-bracket close-bracket whole (rest ts)) (tt, tt) (list_good open-bracket close-bracket whole (rest ts) tt tt),
+          only_good (eqb v 0) (done []) (list_in open_bracket close_bracket whole (rest ts)) (tt, tt) (list_good open_bracket close_bracket whole (rest ts) tt tt),
           (
-            list_good open-brace close-brace whole ts tt tt,
+            list_good open_brace close_brace whole ts tt tt,
             (
               (tt, tt),
               (
@@ -160,7 +159,7 @@ all_good c v d ts = (
                   (
                     (tt, tt),
                     (
-                      list_good open-paren close-paren whole (rest ts) tt tt,
+                      list_good open_paren close_paren whole (rest ts) tt tt,
                       (
                         (tt, tt),
                         (
@@ -176,15 +175,15 @@ all_good c v d ts = (
                                   (
                                     (tt, tt),
                                     (
-                                      (arms_sure (open-brace ∷ []) (rest ts) tt, either (empty (rest ts)) (open-brace ∷ close-brace ∷ []) (close-brace ∷ []) tt tt),
+                                      (arms_sure (open_brace ∷ []) (rest ts) tt, either (empty (rest ts)) (open_brace ∷ close_brace ∷ []) (close_brace ∷ []) tt tt),
                                       (
                                         arm_good c.more v (rest ts),
                                         (
-                                          only_good (eqb v 0) (done []) (list_in open-paren close-paren whole (rest ts)) (tt, tt) (list_good open-paren close-paren whole (rest ts) tt tt),
+                                          only_good (eqb v 0) (done []) (list_in open_paren close_paren whole (rest ts)) (tt, tt) (list_good open_paren close_paren whole (rest ts) tt tt),
                                           (
-                                            statements_good v (open-brace ∷ []) ts tt,
+                                            statements_good v (open_brace ∷ []) ts tt,
                                             (
-                                              only_good (eqb v 0) (list_in open-brace close-brace whole ts) (by [] whole (list_in open-brace close-brace whole (rest ts))) (list_good open-brace close-brace whole ts tt tt) (list_good open-brace close-brace whole (rest ts) tt tt),
+                                              only_good (eqb v 0) (list_in open_brace close_brace whole ts) (by [] whole (list_in open_brace close_brace whole (rest ts))) (list_good open_brace close_brace whole ts tt tt) (list_good open_brace close_brace whole (rest ts) tt tt),
                                               (
                                                 (tt, tt),
                                                 (
@@ -257,7 +256,7 @@ signs_sure (c ∷ w) h = both (sure_word c) (sure_bits (signs w)) (and_l (sure_w
 
 paired_sure : (b : Bool) (bs : List Bit) → T (sure_bits bs) → T (sure_bits (paired b bs))
 unfolding lexer sure_word
-paired_sure true bs h = bits_two bs (sign close-paren ∷ []) h tt
+paired_sure true bs h = bits_two bs (sign close_paren ∷ []) h tt
 paired_sure false bs h = h
 
 pub pairs_sure : (n : ℕ) (bs : List Bit) → T (sure_bits bs) → T (sure_bits (in_pairs n bs))

@@ -9,11 +9,11 @@ use native.Mathlib.Omega.{arith}
 use lib.Dec.{T, eqb, eqb→eq}
 use lib.ListN.{length}
 use borrow.Author.Tests.{eqb-true}
-use Rattle.rows.specs.Kinds.{kinds}
-use Rattle.grammar.specs.Words.{literals, words}
+use Rattle.rows.specs.Kinds as kinds
+use Rattle.grammar.specs.Words.{'test', literals}
 use Rattle.grammar.specs.Grammar.{Ask, In, Symbol, same, token, phrase, unless, note, left_side, text, Token, Look, found, over, wrong, Stream, Parts, mark, end, one_of, alternatives}
 use Rattle.grammar.specs.Table.{word, a, row, literal, rest_kinds, literal_row}
-use Rattle.grammar.specs.Kinds.{phrases}
+use Rattle.grammar.specs.Kinds.{DECLARATION, NAME, BLOCK, LITERAL}
 use Rattle.grammar.specs.Limits.{Counts}
 use Rattle.grammar.specs.Choice.{see, chosen}
 use Rattle.grammar.specs.Runs.{viewed, view, Run}
@@ -35,8 +35,6 @@ use Rattle.forests.proofs.Stands.{literal_kinds}
 use Rattle.forests.proofs.Sources.{looks_known}
 use Rattle.roundtrip.specs.ReadsBack.{print_of}
 use Rattle.roundtrip.proofs.ReadsBack.{reads_back, read_again}
-open words use {'test'}
-open phrases use {DECLARATION, NAME, BLOCK, LITERAL}
 
 -- no row of these is a test
 abbrev testless : List Row → Bool

@@ -8,9 +8,9 @@ use native.Mathlib.Omega.{arith}
 use lib.ListN.{length}
 use lib.Dec.{T, T_not, eqb}
 use lib.Seq.{slice}
-use Rattle.rows.specs.Kinds.{kinds}
+use Rattle.rows.specs.Kinds as kinds
 use Rattle.chars.specs.Chars.{byte_at}
-use Rattle.texts.specs.Signs.{signs}
+use Rattle.texts.specs.Signs.{quote}
 use Rattle.grammar.specs.Grammar.{Ask, Symbol, Token, found, Stream, Parts, one_of}
 use Rattle.grammar.specs.Limits.{Counts, kept}
 use Rattle.grammar.specs.Readings.{ReadingBy, reads_end, reads_token, reads_phrase, reads_unless, reads_note, reads_side, reads_text}
@@ -30,7 +30,6 @@ use Rattle.respell.proofs.Endings.{one_found, one_ending}
 use Rattle.roundtrip.specs.ReadsBack.{valued}
 use Rattle.roundtrip.proofs.Meets.{Stringed, stringed, token_row, token_bytes}
 use Rattle.roundtrip.proofs.Twins.{Twins, twins_none, twins_more, Twin, Paired}
-open signs use {quote}
 
 -- a reading shows its own tokens
 own_shown : (s : List ℕ) {G : Ask → Counts → Token → Bool} {d : Counts} {b : List Symbol} {i r : ℕ} {p : Parts} → ReadingBy (source s) l G d b i r p → Shown (source s) Like (tokens_of p) i r
@@ -113,21 +112,21 @@ module _ (s w : List ℕ) where
     own : Shown (source w) Like (y ∷ tokens_of b.rest) y.start (b.quote + 1)
     own = shown_token (look_again w b.at y b.next b.seen) refl (look_lies w b.at y b.next b.seen).2 (own_shown w b.reading)
 
-    string_same : bytes_of w kinds.F-STRING ys ≡ bytes_of s kinds.F-STRING xs
+    string_same : bytes_of w kinds.F_STRING ys ≡ bytes_of s kinds.F_STRING xs
     string_same =
         let e : q' + 1 ≡ b.quote + 1 = one_stop shown own t in
         let f = starts in
         let g = behind in
         b.bytes ∙ text_copied copy x.start y.start (a.quote + 1) (b.quote + 1) (omega arith) (omega arith) (omega arith) (omega arith) (omega arith) ∙ sym a.bytes
 
-  string_bytes : {xs ys : List Token} (a : Stringed s kept xs) (b : Stringed w valued ys) → Twins Q as_like xs ys → bytes_of w kinds.F-STRING ys ≡ bytes_of s kinds.F-STRING xs
+  string_bytes : {xs ys : List Token} (a : Stringed s kept xs) (b : Stringed w valued ys) → Twins Q as_like xs ys → bytes_of w kinds.F_STRING ys ≡ bytes_of s kinds.F_STRING xs
   string_bytes {xs} {ys} a b t = by (subst (λ (o : List Token). Twins Q as_like (a.first ∷ tokens_of a.rest) o) b.are (subst (λ (o : List Token). Twins Q as_like o ys) a.are t))
     where
-      by : Twins Q as_like (a.first ∷ tokens_of a.rest) (b.first ∷ tokens_of b.rest) → bytes_of w kinds.F-STRING ys ≡ bytes_of s kinds.F-STRING xs
+      by : Twins Q as_like (a.first ∷ tokens_of a.rest) (b.first ∷ tokens_of b.rest) → bytes_of w kinds.F_STRING ys ≡ bytes_of s kinds.F_STRING xs
       by (twins_more q u) = string_same xs ys a b q (twins_more q u)
 
   -- a token
-  token_same : (k : ℕ) (x y : Token) (i j i' j' : ℕ) → T (one_of k copied) → (eqb k kinds.F-STRING ≡ false) ⊎ (k ≡ x.kind) → (eqb k kinds.F-STRING ≡ false) ⊎ (k ≡ y.kind) → (source s).look i ≡ found x j → (source w).look i' ≡ found y j' → Q x y → bytes_of w k (y ∷ []) ≡ bytes_of s k (x ∷ [])
+  token_same : (k : ℕ) (x y : Token) (i j i' j' : ℕ) → T (one_of k copied) → (eqb k kinds.F_STRING ≡ false) ⊎ (k ≡ x.kind) → (eqb k kinds.F_STRING ≡ false) ⊎ (k ≡ y.kind) → (source s).look i ≡ found x j → (source w).look i' ≡ found y j' → Q x y → bytes_of w k (y ∷ []) ≡ bytes_of s k (x ∷ [])
   token_same k x y i j i' j' c f f' e e' q =
       let v = look_lies s i x j e in
       let v₁ = v.1 in
@@ -140,8 +139,8 @@ module _ (s w : List ℕ) where
       let ends = m.ends in
       token_bytes w k y i' j' c f' e' ∙ text_copied m.copy x.start y.start j j' from (omega arith) (omega arith) starts (omega arith) ∙ sym (token_bytes s k x i j c f e)
 
-  mixed : (k : ℕ) → eqb k kinds.F-STRING ≡ false → k ≡ kinds.F-STRING → ⊥
-  mixed k f e = true≢false (sym (ap (λ (n : ℕ). eqb n kinds.F-STRING) e) ∙ f)
+  mixed : (k : ℕ) → eqb k kinds.F_STRING ≡ false → k ≡ kinds.F_STRING → ⊥
+  mixed k f e = true≢false (sym (ap (λ (n : ℕ). eqb n kinds.F_STRING) e) ∙ f)
 
   copied_same : (k : ℕ) (xs ys : List Token) → T (one_of k copied) → Stands (source s) l kept k xs → Stands (source w) l valued k ys → Twins Q as_like xs ys → bytes_of w k ys ≡ bytes_of s k xs
   copied_same k xs ys c (stands_token {x = x} i j f e n) (stands_token {x = y} i' j' f' e' n') (twins_more q twins_none) = token_same k x y i j i' j' c f f' e e' q
@@ -156,7 +155,7 @@ module _ (s w : List ℕ) where
       g c = subst (λ (n : ℕ). Stands (source w) l valued n h'.tokens) (sym t.kind_same) (f' (subst (λ (n : ℕ). T (one_of n copied)) t.kind_same c))
 
       bare : (z : List ℕ) (ts : List Token) → one_of h.kind copied ≡ false → bytes_of z h.kind ts ≡ []
-      bare z ts e = ap (λ (o : Bool). cond o (slice (groves.starts ts) (cond (eqb h.kind kinds.F-STRING) (groves.ends ts + 1) (groves.ends ts)) z) []) e
+      bare z ts e = ap (λ (o : Bool). cond o (slice (groves.starts ts) (cond (eqb h.kind kinds.F_STRING) (groves.ends ts + 1) (groves.ends ts)) z) []) e
 
       by : (o : Bool) → one_of h.kind copied ≡ o → bytes_of w h.kind h'.tokens ≡ bytes_of s h.kind h.tokens
       by true e = let c = subst T (sym e) tt in copied_same h.kind h.tokens h'.tokens c (f c) (g c) t.twins

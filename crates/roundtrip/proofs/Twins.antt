@@ -4,7 +4,7 @@ use mathlib.Core.List.{List, [], ◌∷◌, ◌++◌}
 use mathlib.Core.Bool.{Bool, true, false, cond}
 use Prim.Native.Nat.{ℕ}
 use lib.Dec.{eqb}
-use Rattle.grammar.specs.Words.{words}
+use Rattle.grammar.specs.Words.{text_then_hole, last_text}
 use Rattle.grammar.specs.Grammar.{Token, Parts, one_of}
 use Rattle.grammar.specs.Table.{rest_kinds, literal_row}
 use Rattle.grammar.specs.Rows.{detail_for}
@@ -12,7 +12,6 @@ use Rattle.canon.specs.Trees.{copied}
 use Rattle.printing.specs.Alike.{Match, match_end, match_leaf, match_node, match_mark}
 use Rattle.printing.specs.Groves.{Head, Grove, nil, top, beside, Lead, nobody, row, word, State, fresh, signed, sign_in, led, lead_of, with_word, text_head, with_text, add, first_head, literal_head, keep, head_for, noted, enter, leave, grow}
 use Rattle.respell.specs.Shown.{Like}
-open words use {text-then-hole, last-text}
 
 module _ (Q : Token → Token → Type 0) (as_like : (x y : Token) → Q x y → Like x y) where
   pub data Twins : List Token → List Token → Type 0 where
@@ -104,9 +103,9 @@ module _ (Q : Token → Token → Type 0) (as_like : (x y : Token) → Q x y →
 
     add_states : (a a' : State) → States a a' → States (add x a) (add y a')
     add_states a a' u =
-        subst (λ (w : ℕ). States (add x a) (cond (one_of w (text-then-hole ∷ last-text ∷ [])) (cond (eqb y.value 0) (with_word y a') (with_text y a')) (with_word y a'))) words_same
-        (subst (λ (v : ℕ). States (add x a) (cond (one_of x.word (text-then-hole ∷ last-text ∷ [])) (cond (eqb v 0) (with_word y a') (with_text y a')) (with_word y a'))) numbers_same
-        (go (one_of x.word (text-then-hole ∷ last-text ∷ [])) (eqb x.value 0)))
+        subst (λ (w : ℕ). States (add x a) (cond (one_of w (text_then_hole ∷ last_text ∷ [])) (cond (eqb y.value 0) (with_word y a') (with_text y a')) (with_word y a'))) words_same
+        (subst (λ (v : ℕ). States (add x a) (cond (one_of x.word (text_then_hole ∷ last_text ∷ [])) (cond (eqb v 0) (with_word y a') (with_text y a')) (with_word y a'))) numbers_same
+        (go (one_of x.word (text_then_hole ∷ last_text ∷ [])) (eqb x.value 0)))
       where
         go : (b c : Bool) → States (cond b (cond c (with_word x a) (with_text x a)) (with_word x a)) (cond b (cond c (with_word y a') (with_text y a')) (with_word y a'))
         go true true = word_states a a' u

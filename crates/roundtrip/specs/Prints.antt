@@ -2,7 +2,7 @@
 -- before 9 where it would pass another limit (at the token of the print), before 10 for the text buffer."
 use Rattle.std.specs.Prelude.{◌≡◌, List, [], ◌∷◌, ◌++◌, Bool, true, cond, ◌≢◌, ℕ, suc, ◌-◌, ◌/◌, ◌≤◌, ◌<◌, eqb, length, replicate}
 use Rattle.chars.specs.declared.Answer.{Answer}
-use Rattle.rows.specs.Kinds.{kinds}
+use Rattle.rows.specs.Kinds as kinds
 use Rattle.grammar.specs.Grammar.{Parts}
 use Rattle.grammar.specs.Rows.{Row}
 use Rattle.answers.specs.Entries.{Permitted}

@@ -7,5 +7,137 @@
 -- part". 0 is no row.
 use Rattle.std.specs.Prelude.{ℕ}
 
-abbrev pub kinds : record { NONE : ℕ; NAME : ℕ; PATH : ℕ; NEVER : ℕ; UNIT : ℕ; OPTION : ℕ; PATH-TYPE : ℕ; RECORD-TYPE : ℕ; TYPED-NAME : ℕ; INTEGER : ℕ; FLOAT : ℕ; BOOL : ℕ; ASN : ℕ; IPV4 : ℕ; IPV6 : ℕ; STRING : ℕ; CHAR : ℕ; BINARY : ℕ; NOT : ℕ; NEGATE : ℕ; CALL : ℕ; ACCESS : ℕ; QUESTION : ℕ; ASSIGN : ℕ; RETURN : ℕ; IF : ℕ; WHILE : ℕ; FOR : ℕ; MATCH : ℕ; ARM : ℕ; ANY : ℕ; VARIANT : ℕ; BLOCK : ℕ; RECORD : ℕ; FIELD : ℕ; LET : ℕ; IMPORT : ℕ; CONST : ℕ; FN : ℕ; TEST : ℕ; TREE : ℕ; IMPORT-PATH : ℕ; FILTER : ℕ; F-STRING : ℕ; TEXT : ℕ }
-kinds = record { NONE = 0; NAME = 1; PATH = 2; NEVER = 3; UNIT = 4; OPTION = 5; PATH-TYPE = 6; RECORD-TYPE = 7; TYPED-NAME = 8; INTEGER = 10; FLOAT = 11; BOOL = 12; ASN = 13; IPV4 = 14; IPV6 = 15; STRING = 16; CHAR = 17; BINARY = 20; NOT = 21; NEGATE = 22; CALL = 23; ACCESS = 24; QUESTION = 25; ASSIGN = 26; RETURN = 27; IF = 28; WHILE = 29; FOR = 30; MATCH = 31; ARM = 32; ANY = 33; VARIANT = 34; BLOCK = 35; RECORD = 36; FIELD = 37; LET = 38; IMPORT = 39; CONST = 40; FN = 41; TEST = 42; TREE = 43; IMPORT-PATH = 44; FILTER = 45; F-STRING = 46; TEXT = 47 }
+abbrev pub NONE : ℕ
+NONE = 0
+
+abbrev pub NAME : ℕ
+NAME = 1
+
+abbrev pub PATH : ℕ
+PATH = 2
+
+abbrev pub NEVER : ℕ
+NEVER = 3
+
+abbrev pub UNIT : ℕ
+UNIT = 4
+
+abbrev pub OPTION : ℕ
+OPTION = 5
+
+abbrev pub PATH_TYPE : ℕ
+PATH_TYPE = 6
+
+abbrev pub RECORD_TYPE : ℕ
+RECORD_TYPE = 7
+
+abbrev pub TYPED_NAME : ℕ
+TYPED_NAME = 8
+
+abbrev pub INTEGER : ℕ
+INTEGER = 10
+
+abbrev pub FLOAT : ℕ
+FLOAT = 11
+
+abbrev pub BOOL : ℕ
+BOOL = 12
+
+abbrev pub ASN : ℕ
+ASN = 13
+
+abbrev pub IPV4 : ℕ
+IPV4 = 14
+
+abbrev pub IPV6 : ℕ
+IPV6 = 15
+
+abbrev pub STRING : ℕ
+STRING = 16
+
+abbrev pub CHAR : ℕ
+CHAR = 17
+
+abbrev pub BINARY : ℕ
+BINARY = 20
+
+abbrev pub NOT : ℕ
+NOT = 21
+
+abbrev pub NEGATE : ℕ
+NEGATE = 22
+
+abbrev pub CALL : ℕ
+CALL = 23
+
+abbrev pub ACCESS : ℕ
+ACCESS = 24
+
+abbrev pub QUESTION : ℕ
+QUESTION = 25
+
+abbrev pub ASSIGN : ℕ
+ASSIGN = 26
+
+abbrev pub RETURN : ℕ
+RETURN = 27
+
+abbrev pub IF : ℕ
+IF = 28
+
+abbrev pub WHILE : ℕ
+WHILE = 29
+
+abbrev pub FOR : ℕ
+FOR = 30
+
+abbrev pub MATCH : ℕ
+MATCH = 31
+
+abbrev pub ARM : ℕ
+ARM = 32
+
+abbrev pub ANY : ℕ
+ANY = 33
+
+abbrev pub VARIANT : ℕ
+VARIANT = 34
+
+abbrev pub BLOCK : ℕ
+BLOCK = 35
+
+abbrev pub RECORD : ℕ
+RECORD = 36
+
+abbrev pub FIELD : ℕ
+FIELD = 37
+
+abbrev pub LET : ℕ
+LET = 38
+
+abbrev pub IMPORT : ℕ
+IMPORT = 39
+
+abbrev pub CONST : ℕ
+CONST = 40
+
+abbrev pub FN : ℕ
+FN = 41
+
+abbrev pub TEST : ℕ
+TEST = 42
+
+abbrev pub TREE : ℕ
+TREE = 43
+
+abbrev pub IMPORT_PATH : ℕ
+IMPORT_PATH = 44
+
+abbrev pub FILTER : ℕ
+FILTER = 45
+
+abbrev pub F_STRING : ℕ
+F_STRING = 46
+
+abbrev pub TEXT : ℕ
+TEXT = 47

@@ -11,7 +11,7 @@ use Rattle.tokens.specs.Blanks.{skip_all}
 use Rattle.grammar.specs.Grammar.{Look, found, over, wrong, Parts}
 use Rattle.grammar.specs.Limits.{zeros}
 use Rattle.grammar.specs.Table.{a}
-use Rattle.grammar.specs.Kinds.{phrases}
+use Rattle.grammar.specs.Kinds.{DECLARATION}
 use Rattle.grammar.specs.Language.{roto}
 use Rattle.grammar.specs.Readings.{Reading}
 use Rattle.grammar.specs.Refusals.{said}
@@ -25,7 +25,6 @@ use Rattle.keeping.specs.Breaks.{Breaks}
 use Rattle.salvage.specs.Salvage.{end_of, blanked, range, Salvage, whole, drops}
 use Rattle.salvage.specs.Compute.{Found, to_end, to_break, unknown, Result, with_range, is_over, read, salvaged}
 use Rattle.salvage.specs.Cases.{Case, Each}
-open phrases use {DECLARATION}
 
 over_is : (k : Look ℕ) → is_over k ≡ true → k ≡ over
 over_is over e = refl

@@ -12,7 +12,7 @@ use Rattle.chars.specs.Chars.{byte_at, is_class}
 use Rattle.tokens.specs.declared.Whole.TheVariants.{Fine}
 use Rattle.tokens.specs.Tokens.{whole_of, counted}
 use Rattle.tokens.specs.Blanks.{skip_all}
-use Rattle.rows.specs.Kinds.{kinds}
+use Rattle.rows.specs.Kinds as kinds
 use Rattle.rows.specs.declared.Row.{Row}
 use Rattle.rows.specs.Rows.{width, put_row}
 use Rattle.grammar.specs.Refusals.{Refusal}

@@ -14,7 +14,7 @@ use Rattle.tokens.specs.Blanks.{skip_all}
 use Rattle.grammar.specs.Grammar.{over, Parts}
 use Rattle.grammar.specs.Limits.{zeros}
 use Rattle.grammar.specs.Table.{a}
-use Rattle.grammar.specs.Kinds.{phrases}
+use Rattle.grammar.specs.Kinds.{DECLARATION}
 use Rattle.grammar.specs.Language.{roto}
 use Rattle.grammar.specs.Readings.{Reading}
 use Rattle.grammar.specs.Refusals.{Why, Refusal, said, Stops}
@@ -31,7 +31,6 @@ use Rattle.keeping.specs.Breaks.{Breaks}
 use Rattle.salvage.specs.Salvage.{end_of, blanked, Range, range, Salvage, whole, drops}
 use Rattle.salvage.specs.Answers.{range_width, room_for, flat_ranges, many_ranges, Salvages, early, many_rows, many_ranges_lem, accepts}
 use Rattle.salvage.specs.Theorems.{OneSalvage}
-open phrases use {DECLARATION}
 
 module _ (tests : Bool) (s : List ℕ) where
   -- no declaration stands there

@@ -18,11 +18,11 @@ use Rattle.tokens.specs.Rules.{refused, token_at}
 use Rattle.tokens.specs.Tokens.{step_at}
 use Rattle.tokens.proofs.Steps.{step_inside}
 use Rattle.rows.specs.Rows.{width}
-use Rattle.grammar.specs.Words.{words}
+use Rattle.grammar.specs.Words.{'test'}
 use Rattle.grammar.specs.Grammar.{same, one_of, Parts, end, node}
 use Rattle.grammar.specs.Limits.{zeros, inside}
 use Rattle.grammar.specs.Table.{a}
-use Rattle.grammar.specs.Kinds.{phrases}
+use Rattle.grammar.specs.Kinds.{DECLARATION}
 use Rattle.grammar.specs.Language.{roto}
 use Rattle.grammar.specs.Readings.{Reading, peek, reads_end, reads_phrase}
 use Rattle.grammar.specs.Refusals.{amiss, stops_none}
@@ -62,8 +62,6 @@ use Rattle.promises.proofs.Answered.{further, kept_refused}
 use Rattle.salvage.specs.declared.Break.{Break}
 use Rattle.salvage.specs.Rows.{part_from, freshly, Declares, more, most_rows, Upto, Through, broken_by, ReachesIs, Reaches}
 use Rattle.salvage.proofs.Rows.{back_length, held_still, held_more}
-open words use {'test'}
-open phrases use {DECLARATION}
 
 -- the part of the table behind the rows before is lent, and comes back
 pub declares_so : (s t : List ℕ) (h : Here) (n from : ℕ) {l : Limits} {r : Read} {part : List ℕ} → from ≡ part_from (length t) n → l ≡ record { brackets = 32; signs = 32; chain = 32; heads = 32 } → Answers (the s (counts l) DECLARATION h (take (length t - from) (drop from t))) 1 r part → Declares s h t n r (take from t ++ (part ++ drop (length t - from) (drop from t)))

@@ -15,7 +15,7 @@ use Rattle.tokens.specs.Blanks.{skip_all}
 use Rattle.grammar.specs.Grammar.{Look, found, over, wrong, Parts}
 use Rattle.grammar.specs.Limits.{zeros}
 use Rattle.grammar.specs.Table.{a}
-use Rattle.grammar.specs.Kinds.{phrases}
+use Rattle.grammar.specs.Kinds.{DECLARATION}
 use Rattle.grammar.specs.Language.{roto}
 use Rattle.grammar.specs.Readings.{Reading}
 use Rattle.grammar.specs.Refusals.{Refusal, said}
@@ -34,7 +34,6 @@ use Rattle.salvage.specs.Answers.{room_for, Salvages, early, many_rows, many_ran
 use Rattle.salvage.proofs.Blanked.{blanked_length}
 use Rattle.salvage.proofs.Left.{bounds}
 use Rattle.salvage.proofs.Fresh.{is_fresh, fresh_answer}
-open phrases use {DECLARATION}
 
 module _ (tests : Bool) where
   -- from a place on declarations stand up to the end, or up to a break

@@ -10,12 +10,12 @@ use Rattle.chars.specs.declared.Answer.{Answer}
 use Rattle.chars.specs.Chars.{byte_at}
 use Rattle.tokens.specs.declared.Whole.TheVariants.{Fine}
 use Rattle.tokens.specs.Tokens.{step_at, whole_of, counted}
-use Rattle.rows.specs.Kinds.{kinds}
+use Rattle.rows.specs.Kinds as kinds
 use Rattle.rows.specs.Rows.{width, put_row, zeroed}
 use Rattle.grammar.specs.Grammar.{over, Parts, end, node}
 use Rattle.grammar.specs.Limits.{zeros, inside}
 use Rattle.grammar.specs.Table.{a}
-use Rattle.grammar.specs.Kinds.{phrases}
+use Rattle.grammar.specs.Kinds.{TREE, DECLARATIONS}
 use Rattle.grammar.specs.Language.{roto}
 use Rattle.grammar.specs.Readings.{Reading, Text, reads_end, reads_phrase}
 use Rattle.grammar.specs.Rows.{Row, Item, own, child, flat, count, sizes, children_of, Draft, blank, write, tree_row, rows_from, rows}
@@ -35,7 +35,6 @@ use Rattle.parser.specs.Going.{store}
 use Rattle.parser.proofs.Tables.{put_length}
 use Rattle.salvage.specs.Rows.{Written, none, more, Through}
 use Rattle.salvage.proofs.Rows.{flat_append}
-open phrases use {TREE, DECLARATIONS}
 
 module _ (s t : List ℕ) (long : length s ≡ length t) where
   written_upto : {m : ℕ} (f : Fenced s m) → ((k : ℕ) → k < m → byte_at s k ≡ byte_at t k) → {i : ℕ} {b : Draft} → Written s i b → length s - m ≤ length s - i → Written t i b

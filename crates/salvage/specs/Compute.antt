@@ -5,13 +5,12 @@ use Rattle.tokens.specs.Blanks.{skip_all}
 use Rattle.grammar.specs.Grammar.{Look, found, over, wrong}
 use Rattle.grammar.specs.Limits.{zeros}
 use Rattle.grammar.specs.Table.{a}
-use Rattle.grammar.specs.Kinds.{phrases}
+use Rattle.grammar.specs.Kinds.{DECLARATION}
 use Rattle.grammar.specs.Language.{roto}
 use Rattle.grammar.specs.Refusals.{Refusal, said}
 use Rattle.grammar.specs.Compute.{done, fail, spent, run}
 use Rattle.answers.specs.Source.{source}
 use Rattle.salvage.specs.Salvage.{end_of, blanked, Range, range}
-open phrases use {DECLARATION}
 
 -- What stands from a place on: declarations up to the end, or up to a break; or it isn't known.
 pub data Found : Type 0 where

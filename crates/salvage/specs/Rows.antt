@@ -1,12 +1,12 @@
 -- The rows of what is kept, as its declarations are read one by one. Not to be believed: only the proofs of the code stand on it.
 use Rattle.std.specs.Prelude.{◌≡◌, List, [], ◌∷◌, ◌++◌, false, cond, ℕ, ◌+◌, ◌*◌, ◌/◌, ◌≤◌, leb, length, take, drop}
-use Rattle.rows.specs.Kinds.{kinds}
+use Rattle.rows.specs.Kinds as kinds
 use Rattle.rows.specs.Rows.{width, put_row}
 use Rattle.tokens.specs.Blanks.{skip_all}
 use Rattle.grammar.specs.Grammar.{over, Parts}
 use Rattle.grammar.specs.Limits.{zeros}
 use Rattle.grammar.specs.Table.{a}
-use Rattle.grammar.specs.Kinds.{phrases}
+use Rattle.grammar.specs.Kinds.{DECLARATION}
 use Rattle.grammar.specs.Language.{roto}
 use Rattle.grammar.specs.Readings.{Reading}
 use Rattle.grammar.specs.Rows.{flat, count, sizes, Draft, blank, write}
@@ -20,7 +20,6 @@ use Rattle.parser.specs.Places.{start_of, plain_row}
 use Rattle.parser.specs.Going.{Answers}
 use Rattle.promises.specs.Promises.{the}
 use Rattle.salvage.specs.declared.Break.{Break}
-open phrases use {DECLARATION}
 
 -- where a table of so many numbers goes on behind n rows: at its end, where it has no room for them
 abbrev pub part_from : ℕ → ℕ → ℕ

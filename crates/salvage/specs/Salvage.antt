@@ -7,14 +7,13 @@ use Rattle.chars.specs.Chars.{byte_at}
 use Rattle.tokens.specs.declared.Fit.{Fit}
 use Rattle.tokens.specs.declared.Fit.TheVariants.{To, No}
 use Rattle.tokens.specs.Rules.{name_at}
-use Rattle.grammar.specs.Words.{filter_words, words}
+use Rattle.grammar.specs.Words.{'const', 'fn', 'import', filter_words}
 use Rattle.grammar.specs.Grammar.{one_of}
 use Rattle.grammar.specs.Language.{roto}
 use Rattle.grammar.specs.Refusals.{Refusal}
 use Rattle.answers.specs.Source.{source}
 use Rattle.keeping.specs.Kept.{Ends}
 use Rattle.keeping.specs.Breaks.{Breaks}
-open words use {'const', 'fn', 'import'}
 
 -- "the whole word `const`, `fn`, `filter`, `filtermap` or `import`": letters, digits and `_` up to another byte
 abbrev pub line_words : List ℕ

@@ -8,7 +8,7 @@ use Rattle.tokens.specs.Blanks.{skip_all}
 use Rattle.grammar.specs.Grammar.{Parts}
 use Rattle.grammar.specs.Limits.{zeros}
 use Rattle.grammar.specs.Table.{a}
-use Rattle.grammar.specs.Kinds.{phrases}
+use Rattle.grammar.specs.Kinds.{DECLARATION}
 use Rattle.grammar.specs.Language.{roto}
 use Rattle.grammar.specs.Readings.{Reading}
 use Rattle.grammar.specs.Answers.{refused, Answers}
@@ -17,7 +17,6 @@ use Rattle.answers.specs.Demands as demands
 use Rattle.keeping.specs.Kept.{Kept}
 use Rattle.salvage.specs.Salvage.{blanked, Range, Salvage}
 use Rattle.salvage.specs.Answers.{Salvages}
-open phrases use {DECLARATION}
 
 -- The answer is determined, and so is what is left in all that was lent.
 pub record OneSalvage (tests : Bool) (s : List ℕ) (size size' : ℕ) : Type 0 where

@@ -2,9 +2,8 @@
 // the source's name.
 use chars::{Answer, refusal};
 use libc::{STDERR_FILENO, STDIN_FILENO, STDOUT_FILENO};
-use lines::spot_of;
-use messages::text;
 use messages::text::Form;
+use messages::{places, text};
 
 // Ranges that are enough for any source: three bytes each.
 const MOST_RANGES: usize = 21845;
@@ -49,8 +48,8 @@ fn lines(out: &mut [u8], at: usize, first: usize, last: usize) -> usize {
 
 // The lines that a range is in, and its ends.
 fn dropped(out: &mut [u8], at: usize, s: &[u8], start: usize, end: usize) -> usize {
-    let first = spot_of(s, start);
-    let last = spot_of(s, std::num::wrapping_sub_usize(end, 1));
+    let first = places::spot_of(s, start);
+    let last = places::spot_of(s, std::num::wrapping_sub_usize(end, 1));
     let mut n = lines(out, at, first.line, last.line);
     n = text::raw(out, n, b" (bytes ");
     n = text::decimal(out, n, start as u64);

@@ -1,7 +1,7 @@
 -- The laws by which the steps of the entry point follow one another.
 use mathlib.Core.Path.{◌≡◌, refl, sym, ap, subst, ◌∙◌}
 use mathlib.Core.List.{List, [], ◌∷◌, ◌++◌}
-use mathlib.Core.Bool.{Bool, true, false, ◌&&◌, cond}
+use mathlib.Core.Bool.{Bool, true, false, cond}
 use mathlib.Core.Logic.{◌⊎◌, inl, inr, ◌≢◌}
 use Prim.Native.Nat.{ℕ, zero, suc, ◌+◌, ◌-◌, ◌*◌, ◌/◌, ◌≤◌, ◌<◌}
 use native.Mathlib.Omega.{arith}
@@ -10,17 +10,16 @@ use lib.ListN.{length, get_or, take, replicate, length-append}
 use lib.Seq.{get_or-append-add}
 use borrow.Author.Tests.{ltb-false, eq-eqb, ne_eqb}
 use Rattle.chars.specs.declared.Answer.{Answer}
-use Rattle.rows.specs.Kinds.{kinds}
+use Rattle.rows.specs.Kinds as kinds
 use Rattle.grammar.specs.Grammar.{Parts}
 use Rattle.grammar.specs.Rows.{Row, numbers, flat}
-use Rattle.grammar.proofs.Bools.{and_l, and_r, T→eq}
+use Rattle.grammar.proofs.Bools.{T→eq}
 use Rattle.answers.specs.Entries.{Permitted}
 use Rattle.answers.specs.Demands.{Reading, rows_of}
 use Rattle.canon.specs.Trees.{tree_of}
 use Rattle.canon.specs.Text.{tokens, printed}
 use Rattle.sink.specs.declared.Sink.{Sink}
 use Rattle.sink.specs.Few.{few}
-use Rattle.sink.specs.Low.{low}
 use Rattle.sink.specs.Told.{Told, empty, state, telling, padded, capped}
 use Rattle.sink.proofs.Prints.{telling_prints}
 use Rattle.roundtrip.specs.ReadsBack.{print_of}
@@ -28,7 +27,6 @@ use Rattle.roundtrip.specs.Prints.{Judged, too_long, past_limit, no_room, fits, 
 use Rattle.roundtrip.proofs.ReadsBack.{reads_back}
 use Rattle.roundtrip.proofs.Answers.{accepted_prints}
 use Rattle.roundtrip.proofs.Nine.{print_judged}
-use Rattle.limits.proofs.Limits.{few_reads}
 use Rattle.setter.specs.declared.entries.Printed.{Printed}
 use Rattle.setter.specs.Waiting.{Planted, Grown, Writes}
 use Rattle.setter.specs.Steps.{Rowed, Standing, Short, BackFor, LimitFor, tests_at, Spoken, JudgedFor, answer_of, Set}
@@ -64,7 +62,6 @@ record Wrote (s : List ℕ) (n : ℕ) (p : Parts) (text : List ℕ) (k : Sink) :
   text_is : length (print_of s p) ≤ 65535 → text ≡ padded n (print_of s p)
   at_is : k.at ≡ capped (length (print_of s p))
   row_is : leb k.row 32 ≡ few 0 (tokens (tree_of s (rows_of true s p)))
-  depth_is : leb k.depth 32 ≡ low 0 (tokens (tree_of s (rows_of true s p)))
 
 wrote : {s t : List ℕ} {m n : ℕ} {text text' : List ℕ} {k : Sink} {p : Parts} → Writes s t m text text' k → text ≡ replicate n 0 → Rowed s t m p → Wrote s n p text' k
 unfolding printed
@@ -75,11 +72,10 @@ wrote {s} {t} {m} {n} {text} {text'} {k} {p} w e r =
       text_is = λ l. ap (λ (x : Told). x.text) h ∙ z.text (omega arith);
       at_is = ap (λ (x : Told). x.sink.at) h ∙ z.at;
       row_is = ap (λ (x : Told). leb x.sink.row 32) h ∙ z.row;
-      depth_is = ap (λ (x : Told). leb x.sink.depth 32) h ∙ z.depth;
     }
 
 pub spoken : {s t : List ℕ} {m : ℕ} (n : ℕ) {text text' : List ℕ} {k : Sink} → Writes s t m text text' k → text ≡ replicate n 0 → Spoken s t m k
-spoken n w e p r = let h = wrote {n = n} w e r in (h.at_is, h.row_is, h.depth_is)
+spoken n w e p r = let h = wrote {n = n} w e r in (h.at_is, h.row_is)
 
 -- the count of a print that isn't too long
 capped_long : (n : ℕ) → 65535 < capped n → 65535 < n
@@ -134,13 +130,6 @@ back_count w e g h = let c = copied w e g.1 (h g.0 g.1) in c.0 ∙ sym (ap lengt
 
 pub back_for : {s t : List ℕ} {m : ℕ} {text text' : List ℕ} {k : Sink} {x : Answer} {u : List ℕ} → Writes s t m text text' k → text ≡ replicate 65535 0 → Short s t m → Permitted true true (take k.at text') 0 x u → BackFor s t m x
 back_for {x = x} {u = u} w e h a p r = (u, subst (λ (v : List ℕ). Permitted true true v 0 x u) (copied w e r (h p r)).1 a)
-
--- few prefixes and few open brackets: no limit is passed
-pub few_limit : {s t : List ℕ} {n : ℕ} (k : Sink) {x : Answer} → Spoken s t n k → (leb k.row 32 && leb k.depth 32) ≡ true → x ≡ record { number = 10; start = 0; end = 0; count = 0 } → LimitFor s t n x
-few_limit {s} k u h e p r =
-    let a = subst T (sym h) tt in
-    let n = ap (λ (y : Answer). y.number) e in
-    ((λ z. absurd (omega (arith, n, z))), (λ z. few_reads s p r.reading (subst T (u p r).1 (and_l (leb k.row 32) (leb k.depth 32) a)) (subst T (u p r).2 (and_r (leb k.row 32) (leb k.depth 32) a))))
 
 -- what was read back
 pub back_limit : {s t : List ℕ} {n : ℕ} {x : Answer} → Short s t n → BackFor s t n x → LimitFor s t n x

@@ -1,15 +1,15 @@
 -- What each function does to the stack.
 use mathlib.Core.Path.{◌≡◌, refl, sym, ap, ◌∙◌, subst}
 use mathlib.Core.List.{List, [], ◌∷◌, ◌++◌, append_assoc, append-nil}
-use mathlib.Core.Bool.{Bool, true, false, not, ◌||◌, cond}
+use mathlib.Core.Bool.{Bool, true, false, not, cond}
 use mathlib.Core.Logic.{◌⊎◌, inl, inr}
 use Prim.Native.Nat.{ℕ, zero, suc, ◌+◌, ◌-◌, ◌*◌, ◌≤◌, ◌<◌}
-use lib.Dec.{T, eqb, ltb, le→leb, leb→le, ltb→lt}
+use lib.Dec.{T, eqb, ltb, le→leb, leb→le}
 use lib.ListN.{length, get_or, set, length-set}
 use lib.Seq.{get_or-set_same, get_or-set_other, slice}
 use native.Mathlib.Omega.{arith}
 use borrow.Author.Tests.{ne_eqb}
-use Rattle.rows.specs.Kinds.{kinds}
+use Rattle.rows.specs.Kinds as kinds
 use Rattle.grammar.specs.Grammar.{one_of}
 use Rattle.grammar.proofs.Bools.{T→eq, F→eq}
 use Rattle.canon.specs.Trees.{Label, Forest, none, tree, label, copied}
@@ -232,22 +232,22 @@ slice_long zero (suc t) (x ∷ l) h = ap (λ (z : List ℕ). x ∷ z) (slice_lon
 slice_long (suc f) zero (x ∷ l) h = absurd (omega arith)
 slice_long (suc f) (suc t) (x ∷ l) h = slice_long f t l (omega arith)
 
-pub ends_there : (k e q r : ℕ) → q ≡ cond (eqb k kinds.F-STRING) 1 0 → r ≡ e + q → (i : ℕ) (s : List ℕ) → slice i r s ≡ slice i (cond (eqb k kinds.F-STRING) (e + 1) e) s
-ends_there k e q r h g i s = ap (λ (n : ℕ). slice i n s) (g ∙ go (eqb k kinds.F-STRING) h)
+pub ends_there : (k e q r : ℕ) → q ≡ cond (eqb k kinds.F_STRING) 1 0 → r ≡ e + q → (i : ℕ) (s : List ℕ) → slice i r s ≡ slice i (cond (eqb k kinds.F_STRING) (e + 1) e) s
+ends_there k e q r h g i s = ap (λ (n : ℕ). slice i n s) (g ∙ go (eqb k kinds.F_STRING) h)
   where
     go : (b : Bool) → q ≡ cond b 1 0 → e + q ≡ cond b (e + 1) e
     go true h = omega (arith, h)
     go false h = omega (arith, h)
 
-pub ends_behind : (k e most : ℕ) → most ≤ e → (i : ℕ) (s : List ℕ) → length s ≡ most → slice i most s ≡ slice i (cond (eqb k kinds.F-STRING) (e + 1) e) s
-ends_behind k e most h i s g = ap (λ (n : ℕ). slice i n s) (sym g) ∙ slice_long i (cond (eqb k kinds.F-STRING) (e + 1) e) s (go (eqb k kinds.F-STRING))
+pub ends_behind : (k e most : ℕ) → most ≤ e → (i : ℕ) (s : List ℕ) → length s ≡ most → slice i most s ≡ slice i (cond (eqb k kinds.F_STRING) (e + 1) e) s
+ends_behind k e most h i s g = ap (λ (n : ℕ). slice i n s) (sym g) ∙ slice_long i (cond (eqb k kinds.F_STRING) (e + 1) e) s (go (eqb k kinds.F_STRING))
   where
     go : (b : Bool) → length s ≤ cond b (e + 1) e
     go true = omega (arith, g)
     go false = omega (arith, g)
 
-pub quote_small : (k q : ℕ) → q ≡ cond (eqb k kinds.F-STRING) 1 0 → q ≤ 1
-quote_small k q h = go (eqb k kinds.F-STRING) h
+pub quote_small : (k q : ℕ) → q ≡ cond (eqb k kinds.F_STRING) 1 0 → q ≤ 1
+quote_small k q h = go (eqb k kinds.F_STRING) h
   where
     go : (b : Bool) → q ≡ cond b 1 0 → q ≤ 1
     go true h = omega (arith, h)
@@ -259,10 +259,6 @@ pub needs_at : (t : List ℕ) (row what : ℕ) (c : Place) (r : Bool) → meant 
 needs_at t row what c r e f s j kids h g =
     let q : row - 1 ≡ j = omega (arith, h) in
     f kids (g ∙ ap (λ (n : ℕ). eqb (get_or t (n * 7 + 3) 0) 0) (sym q)) ∙ (λ i. canon.needs (e i) (mark (get_or t (q i * 7) 0) (get_or t (q i * 7 + 4) 0) (get_or t (q i * 7 + 5) 0)) kids)
-
--- a place that asks nothing
-pub needs_nothing : (what : ℕ) → place_in what ≡ canon.whole → (a : Label) (kids : Forest) → false ≡ canon.needs (place_in what) a kids
-needs_nothing what e a kids = sym (ap (λ (c : canon.Place). canon.needs c a kids) e ∙ ap (λ (b : Bool). b || false) (F→eq (ltb (canon.level a) 0) (λ (t : T (ltb (canon.level a) 0)). let h = ltb→lt (canon.level a) 0 t in omega (arith, h))))
 
 -- ---- a turn
 

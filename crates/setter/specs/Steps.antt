@@ -3,7 +3,7 @@ use Rattle.std.specs.Prelude.{◌≡◌, List, ◌++◌, true, cond, ◌≢◌, 
 use Rattle.chars.specs.declared.Answer.{Answer}
 use Rattle.tokens.specs.declared.Whole.TheVariants.{Fine}
 use Rattle.tokens.specs.Tokens.{whole_of}
-use Rattle.rows.specs.Kinds.{kinds}
+use Rattle.rows.specs.Kinds as kinds
 use Rattle.grammar.specs.Grammar.{Parts}
 use Rattle.grammar.specs.Rows.{flat}
 use Rattle.answers.specs.Entries.{Permitted}
@@ -14,7 +14,6 @@ use Rattle.roundtrip.specs.ReadsBack.{print_of}
 use Rattle.roundtrip.specs.Prints.{Judged, tests_in}
 use Rattle.sink.specs.declared.Sink.{Sink}
 use Rattle.sink.specs.Few.{few}
-use Rattle.sink.specs.Low.{low}
 use Rattle.sink.specs.Told.{capped}
 use Rattle.setter.specs.declared.entries.Printed.{Printed}
 
@@ -47,7 +46,7 @@ tests_at t (suc n) = tests_at t n + cond (eqb (get_or t (n * 7) 0) kinds.TEST) 1
 
 -- what the sink says once the print was written
 abbrev pub Spoken : List ℕ → List ℕ → ℕ → Sink → Type 0
-Spoken s t n k = (p : Parts) → Rowed s t n p → (k.at ≡ capped (length (print_of s p))) × (leb k.row 32 ≡ few 0 (tokens (tree_of s (rows_of true s p)))) × (leb k.depth 32 ≡ low 0 (tokens (tree_of s (rows_of true s p))))
+Spoken s t n k = (p : Parts) → Rowed s t n p → (k.at ≡ capped (length (print_of s p))) × (leb k.row 32 ≡ few 0 (tokens (tree_of s (rows_of true s p))))
 
 abbrev pub JudgedFor : List ℕ → List ℕ → ℕ → ℕ → Answer → Type 0
 JudgedFor s t n size x = (p : Parts) → Rowed s t n p → (u : List ℕ) × Judged (length s) (print_of s p) size x u

@@ -1,7 +1,7 @@
 -- Where trees stand in a table, and what the stack of the printer means. Not to be believed: only contracts inside the printer cite it; `write`'s says what it comes to.
 use Rattle.std.specs.Prelude.{◌≡◌, List, [], ◌∷◌, ◌++◌, Bool, cond, ℕ, zero, suc, ◌+◌, ◌-◌, ◌*◌, ◌≤◌, ◌<◌, eqb, length, get_or}
 use Rattle.std.proofs.Math.Seq.{slice}
-use Rattle.rows.specs.Kinds.{kinds}
+use Rattle.rows.specs.Kinds as kinds
 use Rattle.rows.specs.Rows.{width}
 use Rattle.grammar.specs.Rows.{Row}
 use Rattle.canon.specs.Trees.{Label, Forest, none, tree, label}
@@ -92,7 +92,7 @@ ClosedBy pair p m z = (s t : List ℕ) → (w : ℕ) × Held s t p m (z - m) (cl
 
 -- The text of a row that is copied.
 abbrev pub text_at : List ℕ → Row → List ℕ
-text_at s r = slice r.start (cond (eqb r.kind kinds.F-STRING) (r.end + 1) r.end) s
+text_at s r = slice r.start (cond (eqb r.kind kinds.F_STRING) (r.end + 1) r.end) s
 
 -- A turn: from entry m, which is on top, on; less waits then, and it is the same print.
 abbrev pub Turned : List ℕ → List ℕ → List ℕ → List ℕ → ℕ → Sink → List ℕ → List ℕ → Turn → Type 0

@@ -1,13 +1,13 @@
 // The entry point of C-20: one way of writing a filter.
 ghost use Rattle.std.specs.Prelude.{◌≡◌, ◌≤◌, ◌*◌, length, replicate};
 ghost use Rattle.roundtrip.specs.Prints.{Prints};
-ghost use Rattle.setter.specs.Steps.{Standing, Short, BackFor, LimitFor, tests_at, Spoken, JudgedFor, Set, answer_of};
+ghost use Rattle.setter.specs.Steps.{Standing, Short, BackFor, tests_at, Spoken, JudgedFor, Set, answer_of};
 
 use super::{PLAN_WIDTH, write};
 use chars::{Answer, MOST_BYTES, refusal};
 use reader::entries::old_tree;
 use rows::{WIDTH, kind};
-use sink::{MOST_OPEN, MOST_PREFIXES, Sink};
+use sink::Sink;
 
 // The answer: number, place, how many bytes the print has, and how many rows are tests.
 #[derive(Drop)]
@@ -87,20 +87,6 @@ fn read_back(s: &[u8], rows: &[u64], count: usize, plan: &mut [u64]) -> Answer
     old_tree(&copy[..sink.at], &mut none)
 }
 
-// A limit that the print passes, as reading it says. It is read only where the counts of what was written leave that open.
-fn limited(s: &[u8], rows: &[u64], count: usize, plan: &mut [u64], sink: Sink) -> Answer
-    requires standing { Standing s.now rows.now count }
-    requires short { Short s.now rows.now count }
-    requires count_in_bounds { count * 4 ≤ length plan.old }
-    requires spoken { Spoken s.now rows.now count sink }
-    ensures { LimitFor s.now rows.now count result }
-{
-    if (sink.row <= MOST_PREFIXES) & (sink.depth <= MOST_OPEN) {
-        return no_room(0);
-    }
-    read_back(s, rows, count, plan)
-}
-
 // What is said of a print that was written: 1, then 9, then 10 for a text of so many bytes.
 fn judged(s: &[u8], rows: &[u64], count: usize, plan: &mut [u64], sink: Sink, room: usize) -> Answer
     requires standing { Standing s.now rows.now count }
@@ -116,9 +102,9 @@ fn judged(s: &[u8], rows: &[u64], count: usize, plan: &mut [u64], sink: Sink, ro
             count: 0,
         };
     }
-    let limit = limited(s, rows, count, plan, sink);
-    if limit.number == refusal::TOO_DEEP {
-        return limit;
+    let back = read_back(s, rows, count, plan);
+    if back.number == refusal::TOO_DEEP {
+        return back;
     }
     if room < sink.at {
         return no_room(sink.at);

@@ -1,7 +1,7 @@
 // One way of writing a filter: the print of a source's tree.
 ghost use Rattle.std.specs.Prelude.{◌≡◌, true, false, cond, List, ℕ, suc, ◌+◌, ◌*◌, ◌-◌, ◌≤◌, ◌<◌, eqb, length, get_or, set};
 ghost use Rattle.std.proofs.Math.Seq.{slice};
-ghost use Rattle.rows.specs.Kinds.{kinds};
+ghost use Rattle.rows.specs.Kinds as kinds;
 ghost use Rattle.canon.specs.Trees.{Forest, label};
 ghost use Rattle.canon.specs.Layout as canon;
 ghost use Rattle.canon.specs.Text.{Bit, copy};
@@ -132,7 +132,7 @@ fn close(plan: &mut [u64], top: usize, pair: bool) -> usize
 
 // Where a copied text ends; an f-string's row ends before its quote.
 fn text_end(k: u64, end: usize, most: usize) -> usize
-    ensures { (i : ℕ) (s : List ℕ) → length s ≡ most → slice i result s ≡ slice i (cond (eqb k kinds.F-STRING) (end + 1) end) s }
+    ensures { (i : ℕ) (s : List ℕ) → length s ≡ most → slice i result s ≡ slice i (cond (eqb k kinds.F_STRING) (end + 1) end) s }
 {
     if end < most {
         return end + layouts::quote(k);
@@ -157,9 +157,6 @@ fn needs(rows: &[u64], row: usize, what: u64) -> bool
     ensures { (row ≡ 0 → result ≡ false) × ((s : List ℕ) (j : ℕ) (kids : Forest) → row ≡ suc j → canon.empty kids ≡ eqb (get_or rows.now (j * 7 + 3) 0) 0 → result ≡ canon.needs (place_in what) (label s (row_at rows.now j)) kids) }
 {
     if row == 0 {
-        return false;
-    }
-    if layouts::asks_nothing(what) {
         return false;
     }
     let at = (row - 1) * WIDTH;

@@ -9,7 +9,7 @@ use lib.Dec.{leb→le}
 use lib.ListN.{length, get_or, take, drop, replicate, length-append, length-replicate, get_or-append}
 use lib.Seq.{sets, take_at}
 use Rattle.chars.specs.declared.Answer.{Answer}
-use Rattle.rows.specs.Kinds.{kinds}
+use Rattle.rows.specs.Kinds as kinds
 use Rattle.rows.specs.Rows.{width, zeroed}
 use Rattle.grammar.specs.Rows.{Row, flat, rows}
 use Rattle.grammar.specs.Subtrees.{total, Trees, none, more}

@@ -12,7 +12,7 @@ use borrow.Author.Tests.{le-leb, eqb-true, eqb-false}
 use Rattle.chars.specs.declared.Answer.{Answer}
 use Rattle.tokens.specs.declared.Whole.TheVariants.{Fine, Refused}
 use Rattle.tokens.specs.Tokens.{whole_of, counted}
-use Rattle.rows.specs.Kinds.{kinds}
+use Rattle.rows.specs.Kinds as kinds
 use Rattle.rows.specs.Rows.{width}
 use Rattle.grammar.specs.Grammar.{Parts}
 use Rattle.grammar.specs.Readings.{Text}

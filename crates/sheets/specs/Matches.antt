@@ -1,6 +1,6 @@
 -- C-21: "the rows are the table our reader makes for that source and the indexes name its declarations in order."
 use Rattle.std.specs.Prelude.{◌≡◌, List, [], ◌∷◌, ◌++◌, ◌≢◌, ℕ, suc, ◌+◌, ◌-◌, length}
-use Rattle.rows.specs.Kinds.{kinds}
+use Rattle.rows.specs.Kinds as kinds
 use Rattle.grammar.specs.Rows.{Row}
 use Rattle.grammar.specs.Subtrees.{Trees}
 

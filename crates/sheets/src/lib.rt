@@ -1,7 +1,7 @@
 // Tables from other tools: a file of a source, its rows and the rows of its declarations by index; checked, and written.
 ghost use Rattle.std.specs.Prelude.{◌≡◌, List, ◌++◌, true, false, ◌&&◌, ◌⊎◌, ℕ, ◌+◌, ◌*◌, ◌≤◌, ◌<◌, ltb, eqb, length, take, drop};
 ghost use Rattle.std.proofs.lemmas.List.Edits.{sets};
-ghost use Rattle.rows.specs.Kinds.{kinds};
+ghost use Rattle.rows.specs.Kinds.{TEST};
 ghost use Rattle.rows.specs.Rows.{width, zeroed};
 ghost use Rattle.grammar.specs.Rows.{Row, flat};
 ghost use Rattle.sheets.specs.Files.{words, written};
@@ -206,7 +206,7 @@ fn misnamed(file: &[u8], at: usize, indexes: usize, table: &[u64], rows: usize) 
 // How many of the first rows are tests.
 fn tests(table: &[u64], rows: usize) -> usize
     requires { rows * width ≤ length table.now }
-    ensures { (rs : List Row) (zs : List ℕ) → table.now ≡ flat rs ++ zs → length rs ≡ rows → result ≡ of_kind kinds.TEST rs }
+    ensures { (rs : List Row) (zs : List ℕ) → table.now ≡ flat rs ++ zs → length rs ≡ rows → result ≡ of_kind TEST rs }
 {
     let mut count = 0;
     let mut left = rows;

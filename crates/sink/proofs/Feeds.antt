@@ -15,7 +15,6 @@ use Rattle.canon.specs.Text.{Bit, sign, spelled, spelling, ends_line}
 use Rattle.canon.specs.Events.{opening}
 use Rattle.sink.specs.declared.Sink.{Sink}
 use Rattle.sink.specs.Few.{is_prefix, row_behind}
-use Rattle.sink.specs.Low.{open_behind}
 use Rattle.sink.specs.Told.{Written, written, counted, put, fed, word_text, blank, Told, state, tell, telling, digit, said, saying}
 
 pub put_in : (t : List ℕ) (n b r : ℕ) → n < length t → r ≡ counted n → written (set t n b) r ≡ put (written t n) b
@@ -26,7 +25,7 @@ pub put_out : (t : List ℕ) (n b r : ℕ) → length t ≤ n → r ≡ counted 
 unfolding put
 put_out t n b r h e = let q : ltb n (length t) ≡ false = F→eq _ (λ (k : T (ltb n (length t))). let l = leb→le (suc n) (length t) k in omega arith) in rw (q, e) refl
 
-pub slice_more : (f t : ℕ) (l : List ℕ) → f < t → f < length l → slice f t l ≡ get_or l f 0 ∷ slice (suc f) t l
+slice_more : (f t : ℕ) (l : List ℕ) → f < t → f < length l → slice f t l ≡ get_or l f 0 ∷ slice (suc f) t l
 slice_more f zero l a b = absurd (omega arith)
 slice_more f (suc t) [] a b = absurd (omega arith)
 slice_more zero (suc t) (x ∷ l) a b = refl
@@ -41,27 +40,6 @@ slice_past zero (suc t) (x ∷ l) (inl k) = absurd (omega arith)
 slice_past zero (suc t) (x ∷ l) (inr k) = absurd (omega arith)
 slice_past (suc f) (suc t) (x ∷ l) (inl k) = slice_past f t l (inl (omega arith))
 slice_past (suc f) (suc t) (x ∷ l) (inr k) = slice_past f t l (inr (omega arith))
-
-pub slice_done : (stop f t : ℕ) (l : List ℕ) → (stop ≡ t) ⊎ (stop ≡ length l) → stop ≤ f → slice f t l ≡ []
-slice_done stop f t l k a = slice_past f t l (go k)
-  where
-    go : (stop ≡ t) ⊎ (stop ≡ length l) → (t ≤ f) ⊎ (length l ≤ f)
-    go (inl e) = inl (omega arith)
-    go (inr e) = inr (omega arith)
-
--- a slice that would end behind the list
-slice_long : (f t : ℕ) (l : List ℕ) → length l ≤ t → slice f (length l) l ≡ slice f t l
-slice_long f zero [] h = refl
-slice_long zero (suc t) [] h = refl
-slice_long (suc f) (suc t) [] h = refl
-slice_long f zero (x ∷ l) h = absurd (omega arith)
-slice_long zero (suc t) (x ∷ l) h = ap (λ (r : List ℕ). x ∷ r) (slice_long zero t l (omega arith))
-slice_long (suc f) (suc t) (x ∷ l) h = slice_long f t l (omega arith)
-
--- a slice reaches as far as its end and the list do
-pub slice_stop : (stop f t : ℕ) (l : List ℕ) → stop ≤ t → (stop ≡ t) ⊎ (stop ≡ length l) → slice f t l ≡ slice f stop l
-slice_stop stop f t l h (inl e) = ap (λ (n : ℕ). slice f n l) (sym e)
-slice_stop stop f t l h (inr e) = sym (ap (λ (n : ℕ). slice f n l) e ∙ slice_long f t l (omega arith))
 
 pub slice_all : (l : List ℕ) → slice 0 (length l) l ≡ l
 slice_all [] = refl
@@ -80,7 +58,11 @@ one_more x y z f t l h e a b = ap (λ (w : Written). fed w (slice (f + 1) t l)) 
 
 pub no_more : (x z : Written) (stop f t : ℕ) (l : List ℕ) → fed x (slice f t l) ≡ z → (stop ≡ t) ⊎ (stop ≡ length l) → stop ≤ f → x ≡ z
 unfolding fed
-no_more x z stop f t l h k a = sym (ap (fed x) (slice_done stop f t l k a)) ∙ h
+no_more x z stop f t l h k a = sym (ap (fed x) (slice_past f t l (go k))) ∙ h
+  where
+    go : (stop ≡ t) ⊎ (stop ≡ length l) → (t ≤ f) ⊎ (length l ≤ f)
+    go (inl e) = inl (omega arith)
+    go (inr e) = inr (omega arith)
 
 pub fed_none : (x : Written) → x ≡ fed x []
 unfolding fed
@@ -115,13 +97,13 @@ pub same_text : (x y : Written) (a b : List ℕ) → y ≡ fed x a → b ≡ a �
 same_text x y a b h e = h ∙ ap (fed x) (sym e)
 
 -- a token, without a newline and with one
-pub told_word : (t0 t1 t2 : List ℕ) (s : Sink) (a1 a2 r d : ℕ) (b : Bit) → written t1 a1 ≡ fed (written t0 s.at) (blank s.gap) → written t2 a2 ≡ fed (written t1 a1) (spelling b) → ends_line b ≡ false → r ≡ row_behind s.row (is_prefix b) → d ≡ open_behind s.depth b → state t2 (record { at = a2; gap = true; row = r; depth = d }) ≡ tell (state t0 s) b
+pub told_word : (t0 t1 t2 : List ℕ) (s : Sink) (a1 a2 r : ℕ) (b : Bit) → written t1 a1 ≡ fed (written t0 s.at) (blank s.gap) → written t2 a2 ≡ fed (written t1 a1) (spelling b) → ends_line b ≡ false → r ≡ row_behind s.row (is_prefix b) → state t2 (record { at = a2; gap = true; row = r }) ≡ tell (state t0 s) b
 unfolding tell fed
-told_word t0 t1 t2 s a1 a2 r d b e1 e2 h q z = rw (h, q, z) (ap (λ (y : Written). state y.text (record { at = y.at; gap = true; row = row_behind s.row (is_prefix b); depth = open_behind s.depth b })) (e2 ∙ ap (λ (y : Written). fed y (spelling b)) e1))
+told_word t0 t1 t2 s a1 a2 r b e1 e2 h q = rw (h, q) (ap (λ (y : Written). state y.text (record { at = y.at; gap = true; row = row_behind s.row (is_prefix b) })) (e2 ∙ ap (λ (y : Written). fed y (spelling b)) e1))
 
-pub told_line : (t0 t1 t2 t3 : List ℕ) (s : Sink) (a1 a2 a3 r d : ℕ) (b : Bit) → written t1 a1 ≡ fed (written t0 s.at) (blank s.gap) → written t2 a2 ≡ fed (written t1 a1) (spelling b) → written t3 a3 ≡ put (written t2 a2) 10 → ends_line b ≡ true → r ≡ row_behind s.row (is_prefix b) → d ≡ open_behind s.depth b → state t3 (record { at = a3; gap = false; row = r; depth = d }) ≡ tell (state t0 s) b
+pub told_line : (t0 t1 t2 t3 : List ℕ) (s : Sink) (a1 a2 a3 r : ℕ) (b : Bit) → written t1 a1 ≡ fed (written t0 s.at) (blank s.gap) → written t2 a2 ≡ fed (written t1 a1) (spelling b) → written t3 a3 ≡ put (written t2 a2) 10 → ends_line b ≡ true → r ≡ row_behind s.row (is_prefix b) → state t3 (record { at = a3; gap = false; row = r }) ≡ tell (state t0 s) b
 unfolding tell fed
-told_line t0 t1 t2 t3 s a1 a2 a3 r d b e1 e2 e3 h q z = rw (h, q, z) (ap (λ (y : Written). state y.text (record { at = y.at; gap = false; row = row_behind s.row (is_prefix b); depth = open_behind s.depth b })) (e3 ∙ ap (λ (y : Written). put y 10) (e2 ∙ ap (λ (y : Written). fed y (spelling b)) e1)))
+told_line t0 t1 t2 t3 s a1 a2 a3 r b e1 e2 e3 h q = rw (h, q) (ap (λ (y : Written). state y.text (record { at = y.at; gap = false; row = row_behind s.row (is_prefix b) })) (e3 ∙ ap (λ (y : Written). put y 10) (e2 ∙ ap (λ (y : Written). fed y (spelling b)) e1)))
 
 -- a word of the lexer's lists
 pub word_spelled : (x y : Written) (w : ℕ) → y ≡ fed x (word_text w) → y ≡ fed x (spelling (sign w))

@@ -1,4 +1,3 @@
 pub mod Spelled
 pub mod Feeds
-pub mod Depths
 pub mod Prints

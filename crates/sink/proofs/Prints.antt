@@ -3,20 +3,17 @@ use mathlib.Core.Path.{◌≡◌, refl, sym, ap, ◌∙◌}
 use mathlib.Core.List.{List, [], ◌∷◌, ◌++◌, append_assoc, append-nil}
 use mathlib.Core.Bool.{Bool, true, false, not, ◌&&◌, cond}
 use mathlib.Core.Logic.{◌⊎◌, inl, inr}
-use Prim.Native.Nat.{ℕ, zero, suc, pred, ◌+◌, ◌≤◌, ◌<◌}
+use Prim.Native.Nat.{ℕ, zero, suc, ◌+◌, ◌≤◌, ◌<◌}
 use lib.Dec.{T, ltb, leb, leb→le, le→leb}
 use lib.ListN.{length, set, length-append}
 use native.Mathlib.Omega.{arith}
-use borrow.Author.Tests.{ltb-true, ltb-false, le-leb, lt-leb, le-ltb}
 use Rattle.grammar.proofs.Bools.{T→eq, F→eq}
 use Rattle.grammar.specs.Grammar.{one_of}
 use Rattle.canon.specs.Text.{Bit, sign, copy, spelling, ends_line, blank_between, spaced}
 use Rattle.sink.specs.declared.Sink.{Sink}
 use Rattle.sink.specs.Few.{prefix_words, few, is_prefix, row_behind}
-use Rattle.sink.specs.Low.{openers, closers, quoted, weight, low, open_behind}
 use Rattle.sink.specs.Told.{Written, written, counted, put, fed, blank, newline, empty, state, tell, telling, padded, capped, TellsPrints}
 use Rattle.sink.proofs.Feeds.{fed_none, fed_append, behind_prefix, behind_other}
-use Rattle.sink.proofs.Depths.{deep_stays}
 
 below : (n m : ℕ) → n < m → ltb n m ≡ true
 below n m h = T→eq _ (le→leb (suc n) m h)
@@ -122,7 +119,7 @@ told_bytes t s (b ∷ bs) =
     let x = written t s.at in
     let l = ends_line b in
     let y = fed (fed (fed x (blank s.gap)) (spelling b)) (newline l) in
-    told_bytes y.text (record { at = y.at; gap = not l; row = row_behind s.row (is_prefix b); depth = open_behind s.depth b }) bs
+    told_bytes y.text (record { at = y.at; gap = not l; row = row_behind s.row (is_prefix b) }) bs
     ∙ sym (fed_append (fed (fed x (blank s.gap)) (spelling b)) (newline l) (bytes_of (not l) bs))
     ∙ sym (fed_append (fed x (blank s.gap)) (spelling b) (newline l ++ bytes_of (not l) bs))
     ∙ sym (fed_append x (blank s.gap) (spelling b ++ (newline l ++ bytes_of (not l) bs)))
@@ -138,7 +135,7 @@ told_row t s [] = refl
 told_row t s (b ∷ bs) =
     let l = ends_line b in
     let y = fed (fed (fed (written t s.at) (blank s.gap)) (spelling b)) (newline l) in
-    told_row y.text (record { at = y.at; gap = not l; row = row_behind s.row (is_prefix b); depth = open_behind s.depth b }) bs
+    told_row y.text (record { at = y.at; gap = not l; row = row_behind s.row (is_prefix b) }) bs
 
 stays : (bs : List Bit) → row_after 33 bs ≡ 33
 unfolding row_after
@@ -161,59 +158,6 @@ few_row c [] h = T→eq _ (le→leb c 32 h)
 few_row c (copy t ∷ bs) h = few_step c false bs h (λ k l. few_row k bs l)
 few_row c (sign w ∷ bs) h = few_step c (one_of w prefix_words) bs h (λ k l. few_row k bs l)
 
--- brackets open behind tokens
-depth_after : ℕ → List Bit → ℕ
-depth_after d [] = d
-depth_after d (b ∷ bs) = depth_after (open_behind d b) bs
-
-told_depth : (t : List ℕ) (s : Sink) (bs : List Bit) → (telling (state t s) bs).sink.depth ≡ depth_after s.depth bs
-unfolding telling tell depth_after
-told_depth t s [] = refl
-told_depth t s (b ∷ bs) =
-    let l = ends_line b in
-    let y = fed (fed (fed (written t s.at) (blank s.gap)) (spelling b)) (newline l) in
-    told_depth y.text (record { at = y.at; gap = not l; row = row_behind s.row (is_prefix b); depth = open_behind s.depth b }) bs
-
-deep_after : (d : ℕ) (bs : List Bit) → 32 < d → leb (depth_after d bs) 32 ≡ false
-unfolding depth_after
-deep_after d [] h = lt-leb d 32 h
-deep_after d (b ∷ bs) h = ap (λ (n : ℕ). leb (depth_after n bs) 32) (sym (deep_stays d b h)) ∙ deep_after d bs h
-
--- what the count says of the tokens left, where few stand open
-abbrev Tells : List Bit → Type 0
-Tells bs = (d : ℕ) → d ≤ 32 → leb (depth_after d bs) 32 ≡ low d bs
-
-low_opened : (d : ℕ) (bs : List Bit) → Tells bs → (d < 32) ⊎ (32 ≤ d) → leb (depth_after (d + 1) bs) 32 ≡ (ltb d 32 && low (suc d) bs)
-low_opened d bs ih (inl k) = let q : d + 1 ≡ suc d = omega arith in rw (below d 32 k, q) (ih (suc d) (omega arith))
-low_opened d bs ih (inr k) = rw (not_below d 32 k) (deep_after (d + 1) bs (omega arith))
-
-pred_low : (d : ℕ) → d ≤ 32 → pred d ≤ 32
-pred_low zero h = omega arith
-pred_low (suc d) h = omega arith
-
-low_word : (d : ℕ) (x y : Bool) (bs : List Bit) → d ≤ 32 → Tells bs → leb (depth_after (cond x (d + 1) (cond y (pred d) d)) bs) 32 ≡ cond x (ltb d 32 && low (suc d) bs) (cond y (low (pred d) bs) (low d bs))
-low_word d true y bs h ih = low_opened d bs ih (either d 32)
-low_word d false true bs h ih = ih (pred d) (pred_low d h)
-low_word d false false bs h ih = ih d h
-
-low_text : (d n : ℕ) (x y : Bool) (bs : List Bit) → d ≤ 32 → Tells bs → ltb 32 n ≡ y → leb (depth_after (cond x (cond y 33 d) d) bs) 32 ≡ cond x (leb n 32 && low d bs) (low d bs)
-low_text d n false y bs h ih e = ih d h
-low_text d n true true bs h ih e = deep_after 33 bs (omega arith) ∙ sym (ap (λ (b : Bool). b && low d bs) (lt-leb n 32 (ltb-true 32 n e)))
-low_text d n true false bs h ih e = ih d h ∙ sym (ap (λ (b : Bool). b && low d bs) (le-leb n 32 (ltb-false 32 n e)))
-
-low_depth : (d : ℕ) (bs : List Bit) → d ≤ 32 → leb (depth_after d bs) 32 ≡ low d bs
-unfolding depth_after low
-low_depth d [] h = le-leb d 32 h
-low_depth d (copy t ∷ bs) h =
-    let n = d + weight t in
-    ap (λ (b : Bool). leb (depth_after (cond b d (cond (quoted t) (cond (ltb 32 n) 33 d) d)) bs) 32) (le-ltb 32 d h)
-    ∙ low_text d n (quoted t) (ltb 32 n) bs h (λ k l. low_depth k bs l) refl
-low_depth d (sign w ∷ bs) h =
-    let x = one_of w openers in
-    let y = one_of w closers in
-    ap (λ (b : Bool). leb (depth_after (cond b d (cond x (d + 1) (cond y (pred d) d))) bs) 32) (le-ltb 32 d h)
-    ∙ low_word d x y bs h (λ k l. low_depth k bs l)
-
 pub telling_prints : (n : ℕ) (bs : List Bit) → TellsPrints n bs
 telling_prints n bs =
     let e = told_bytes (padded n []) empty bs ∙ ap (fed (written (padded n []) 0)) (bytes_spaced bs) in
@@ -221,5 +165,4 @@ telling_prints n bs =
       text = λ m. ap (λ (x : Written). x.text) (e ∙ fed_holding n [] (spaced bs) (omega arith));
       at = ap (λ (x : Written). x.at) e ∙ fed_at (written (padded n []) 0) (spaced bs) 0 refl ∙ ap capped {x = 0 + length (spaced bs)} {y = length (spaced bs)} (omega arith);
       row = ap (λ (k : ℕ). leb k 32) (told_row (padded n []) empty bs) ∙ few_row 0 bs (omega arith);
-      depth = ap (λ (k : ℕ). leb k 32) (told_depth (padded n []) empty bs) ∙ low_depth 0 bs (omega arith);
     }

@@ -1,9 +1,8 @@
 -- Prefix words in a row among the tokens of a print.
 use Rattle.std.specs.Prelude.{List, [], ◌∷◌, Bool, true, false, ◌&&◌, cond, ℕ, suc, ◌+◌, ltb}
-use Rattle.grammar.specs.Words.{return_words, words}
+use Rattle.grammar.specs.Words.{'!', '-', return_words}
 use Rattle.grammar.specs.Grammar.{one_of}
 use Rattle.canon.specs.Text.{Bit, sign, copy}
-open words use {'!', '-'}
 
 -- "prefix `!`, `-`, `return`, `accept`, `reject`", by their words alone: a `-` between two operands counts too
 abbrev pub prefix_words : List ℕ

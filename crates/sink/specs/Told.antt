@@ -4,7 +4,6 @@ use Rattle.tokens.specs.Words.{two_signs, one_signs, keywords}
 use Rattle.canon.specs.Text.{Bit, sign, spelled, spelling, ends_line, spaced}
 use Rattle.sink.specs.declared.Sink.{Sink}
 use Rattle.sink.specs.Few.{few, is_prefix, row_behind}
-use Rattle.sink.specs.Low.{low, open_behind}
 
 pub record Written : Type 0 where
   pub text : List ℕ
@@ -44,13 +43,13 @@ state t x = record { text = t; sink = x }
 
 -- nothing is written yet
 abbrev pub empty : Sink
-empty = record { at = 0; gap = false; row = 0; depth = 0 }
+empty = record { at = 0; gap = false; row = 0 }
 
 -- a token more
 unfoldable pub tell : Told → Bit → Told
 tell x b =
     let y = fed (fed (fed (written x.text x.sink.at) (blank x.sink.gap)) (spelling b)) (newline (ends_line b)) in
-    state y.text (record { at = y.at; gap = not (ends_line b); row = row_behind x.sink.row (is_prefix b); depth = open_behind x.sink.depth b })
+    state y.text (record { at = y.at; gap = not (ends_line b); row = row_behind x.sink.row (is_prefix b) })
 
 unfoldable pub telling : Told → List Bit → Told
 telling x [] = x
@@ -78,10 +77,9 @@ padded (suc n) (b ∷ w) = b ∷ padded n w
 abbrev pub capped : ℕ → ℕ
 capped n = cond (ltb n 65536) n 65536
 
--- Telling a print's tokens to a text of zeros leaves the print there, if all of it is counted; its length, whether few prefixes stand in a
--- row and whether few brackets stand open: `telling_prints` (proofs/Prints.antt).
+-- Telling a print's tokens to a text of zeros leaves the print there, if all of it is counted; its length, and whether few prefixes stand in a row:
+-- `telling_prints` (proofs/Prints.antt).
 pub record TellsPrints (n : ℕ) (bs : List Bit) : Type 0 where
   pub text : length (spaced bs) ≤ 65536 → (telling (state (padded n []) empty) bs).text ≡ padded n (spaced bs)
   pub at : (telling (state (padded n []) empty) bs).sink.at ≡ capped (length (spaced bs))
   pub row : leb (telling (state (padded n []) empty) bs).sink.row 32 ≡ few 0 bs
-  pub depth : leb (telling (state (padded n []) empty) bs).sink.depth 32 ≡ low 0 bs

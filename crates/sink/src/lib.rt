@@ -1,31 +1,26 @@
 // The text of a print, token by token, in a buffer.
-ghost use Rattle.std.specs.Prelude.{◌≡◌, ◌++◌, true, cond, ◌⊎◌, ◌+◌, ◌-◌, ◌≤◌, length};
+ghost use Rattle.std.specs.Prelude.{◌≡◌, ◌++◌, ◌⊎◌, ◌≤◌};
 ghost use Rattle.std.proofs.Math.Seq.{slice};
 ghost use Rattle.tokens.specs.Words.{two_signs, one_signs, keywords};
 ghost use Rattle.grammar.specs.Grammar.{one_of};
 ghost use Rattle.canon.specs.Text.{spelled, ends_line, sign, copy};
 ghost use Rattle.canon.specs.Events.{opening};
 ghost use Rattle.sink.specs.Few.{prefix_words, row_behind};
-ghost use Rattle.sink.specs.Low.{openers, quoted, heavy_bytes, weight, open_behind};
 ghost use Rattle.sink.specs.Told.{written, counted, put, fed, word_text, blank, empty, state, tell, telling, digit, said};
 
 use tokens::word;
 
-// How many bytes were written, as far as they count; whether a blank comes before the next token; how many prefix words stand in a row, and
-// how many brackets stand open, each one more than may once there were too many.
+// How many bytes were written, as far as they count; whether a blank comes before the next token; how many prefix words stand in a row, and one more than may
+// once there were too many.
 #[derive(Drop)]
 pub struct Sink {
     pub at: usize,
     pub gap: bool,
     pub row: u64,
-    pub depth: u64,
 }
 
 // "At most 32 in a row of prefix `!`, `-`, `return`, `accept`, `reject`."
 pub const MOST_PREFIXES: u64 = 32;
-
-// "Open brackets `( [ {` at most 32."
-pub const MOST_OPEN: u64 = 32;
 
 // More bytes than a print may have.
 const MANY: usize = 65536;
@@ -37,7 +32,6 @@ pub fn new() -> Sink
         at: 0,
         gap: false,
         row: 0,
-        depth: 0,
     }
 }
 
@@ -68,27 +62,11 @@ fn least(a: usize, b: usize) -> usize
     b
 }
 
-// The bytes of a slice between two places, where there is room for each and each is counted: so nothing is asked between them.
-fn put_fitting(text: &mut [u8], at: usize, s: &[u8], start: usize, stop: usize) -> usize
-    requires start_le_stop { (start ≤ stop) × (stop ≤ length s.now) }
-    requires start_in_bounds { (at + (stop - start) ≤ length text.old) × (at + (stop - start) ≤ 65536) }
-    ensures { written text.new result ≡ fed (written text.old at) (slice start stop s.now) }
+// The bytes of a slice between two places, as far as it reaches.
+fn put_slice(text: &mut [u8], at: usize, s: &[u8], start: usize, end: usize) -> usize
+    ensures { written text.new result ≡ fed (written text.old at) (slice start end s.now) }
 {
-    let mut to = at;
-    let mut i = start;
-    while i < stop {
-        text[to] = s[i];
-        to += 1;
-        i += 1;
-    }
-    to
-}
-
-// The same, one by one where they may not fit.
-fn put_each(text: &mut [u8], at: usize, s: &[u8], start: usize, stop: usize) -> usize
-    requires { stop ≤ length s.now }
-    ensures { written text.new result ≡ fed (written text.old at) (slice start stop s.now) }
-{
+    let stop = least(end, s.len());
     let mut to = at;
     let mut i = start;
     while i < stop {
@@ -96,31 +74,6 @@ fn put_each(text: &mut [u8], at: usize, s: &[u8], start: usize, stop: usize) -> 
         i += 1;
     }
     to
-}
-
-// Whether so many bytes behind those before have room and are counted.
-fn fits(room: usize, at: usize, n: usize) -> bool
-    ensures { result ≡ true → (at + n ≤ room) × (at + n ≤ 65536) }
-{
-    let most = least(room, MANY);
-    if most < at {
-        return false;
-    }
-    n <= most - at
-}
-
-// The bytes of a slice between two places, as far as it reaches.
-fn put_slice(text: &mut [u8], at: usize, s: &[u8], start: usize, end: usize) -> usize
-    ensures { written text.new result ≡ fed (written text.old at) (slice start end s.now) }
-{
-    let stop = least(end, s.len());
-    if stop <= start {
-        return at;
-    }
-    if fits(text.len(), at, stop - start) {
-        return put_fitting(text, at, s, start, stop);
-    }
-    put_each(text, at, s, start, stop)
 }
 
 fn put_all(text: &mut [u8], at: usize, t: &[u8]) -> usize
@@ -163,108 +116,13 @@ fn row_behind(row: u64, prefix: bool) -> u64
     0
 }
 
-// "(", "[", "{"
-fn opens(w: u64) -> bool
-    ensures { result ≡ one_of w openers }
-{
-    (w == word::ROUND_LEFT) | (w == word::SQUARE_LEFT) | (w == word::CURLY_LEFT)
-}
-
-// Open behind one more word. (Most are no bracket: one test tells.)
-fn open_behind(depth: u64, w: u64) -> u64
-    ensures { result ≡ open_behind depth (sign w) }
-{
-    if (w < word::CURLY_LEFT) | (word::SQUARE_RIGHT < w) {
-        return depth;
-    }
-    if MOST_OPEN < depth {
-        return depth;
-    }
-    if opens(w) {
-        return depth + 1;
-    }
-    if depth == 0 {
-        return 0;
-    }
-    depth - 1
-}
-
-// Whether the text between two places is an f-string's.
-fn is_quoted(s: &[u8], start: usize, end: usize) -> bool
-    ensures { result ≡ quoted (slice start end s.now) }
-{
-    let stop = least(end, s.len());
-    if stop <= start {
-        return false;
-    }
-    let next = start + 1;
-    if stop <= next {
-        return false;
-    }
-    (s[start] == b'f') & (s[next] == b'"')
-}
-
-// 1 for a byte that each word has one of which opens a bracket or is a prefix.
-fn heavy(b: u8) -> u64
-    ensures { (result ≡ cond (one_of b heavy_bytes) 1 0) × (result ≤ 1) }
-{
-    if (b == b'(')
-        | (b == b'[')
-        | (b == b'{')
-        | (b == b'!')
-        | (b == b'-')
-        | (b == b'u')
-        | (b == b'p')
-        | (b == b'j')
-    {
-        return 1;
-    }
-    0
-}
-
-// How many such bytes stand between two places.
-fn weight(s: &[u8], start: usize, end: usize) -> u64
-    ensures { result ≡ weight (slice start end s.now) }
-{
-    let stop = least(end, s.len());
-    let mut count = 0;
-    let mut i = start;
-    while i < stop {
-        count += heavy(s[i]);
-        i += 1;
-    }
-    count
-}
-
-// Open behind a copied text: what an f-string opens it closes, but it may open too many.
-fn open_past(depth: u64, s: &[u8], start: usize, end: usize) -> u64
-    ensures { result ≡ open_behind depth (copy (slice start end s.now)) }
-{
-    if !is_quoted(s, start, end) {
-        return depth;
-    }
-    if MOST_OPEN < depth {
-        return depth;
-    }
-    if MOST_OPEN - depth < weight(s, start, end) {
-        return MOST_OPEN + 1;
-    }
-    depth
-}
-
 pub fn copy(text: &mut [u8], sink: Sink, s: &[u8], start: usize, end: usize) -> Sink
     ensures { state text.new result ≡ tell (state text.old sink) (copy (slice start end s.now)) }
 {
     let from = put_blank(text, sink);
     let at = put_slice(text, from, s, start, end);
     let row = row_behind(sink.row, false);
-    let depth = open_past(sink.depth, s, start, end);
-    Sink {
-        at,
-        gap: true,
-        row,
-        depth,
-    }
+    Sink { at, gap: true, row }
 }
 
 fn put_two_signs(text: &mut [u8], at: usize, w: u64) -> usize
@@ -376,21 +234,14 @@ pub fn sign(text: &mut [u8], sink: Sink, w: u64) -> Sink
     let from = put_blank(text, sink);
     let at = put_word(text, from, w);
     let row = row_behind(sink.row, is_prefix(w));
-    let depth = open_behind(sink.depth, w);
     if ends_line(w) {
         return Sink {
             at: put(text, at, b'\n'),
             gap: false,
             row,
-            depth,
         };
     }
-    Sink {
-        at,
-        gap: true,
-        row,
-        depth,
-    }
+    Sink { at, gap: true, row }
 }
 
 // Up to three words in one number, each 1 more than its word, the first in the lowest digit.

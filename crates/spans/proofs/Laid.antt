@@ -10,7 +10,7 @@ use native.Mathlib.Omega.{arith}
 use Rattle.grammar.specs.Grammar.{Ask, Symbol, token, phrase, same, Token, found, Stream, Parts, end, leaf, node, mark, Language, one_of}
 use Rattle.grammar.specs.Limits.{Counts}
 use Rattle.grammar.specs.Readings.{Reads, reads_end, reads_token, reads_phrase, reads_unless, reads_note, reads_side, reads_text, Is}
-use Rattle.grammar.specs.Kinds.{phrases}
+use Rattle.grammar.specs.Kinds.{DECLARATIONS}
 use Rattle.grammar.specs.Table.{rest_kinds}
 use Rattle.grammar.specs.Rows.{Row, Item, own, child, children_of, row_of, Draft, blank, take_note, is_text, text_row, add_token, write}
 use Rattle.grammar.proofs.Bools.{and_l, and_r, or_cases, implied}
@@ -20,7 +20,6 @@ use Rattle.grammar.proofs.Subtrees.{rows_in, rows_in_append, rows_in_children}
 use Rattle.spans.specs.Nested.{nothing, Nested, none, more}
 use Rattle.spans.proofs.Order.{nested_append, Within, within_append, within_children, some_item, some_child, child_item, row_span, row_within, row_nested}
 use Rattle.spans.proofs.Table.{leaves, goes_on, begins, filled, fills, all_filled}
-open phrases use {DECLARATIONS}
 
 item_more : (xs ys : List Item) → T (some_item xs) → T (some_item (xs ++ ys))
 item_more [] ys t = absurd t

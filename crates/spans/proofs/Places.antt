@@ -22,7 +22,7 @@ use Rattle.texts.specs.Parts.{part_at}
 use Rattle.texts.specs.Texts.{text_of}
 use Rattle.texts.proofs.Parts.{Parted, parted_before, parted_ends, parted_none, part_lies}
 use Rattle.strings.specs.declared.Size.{Size}
-use Rattle.grammar.specs.Words.{words}
+use Rattle.grammar.specs.Words.{text_then_hole, last_text}
 use Rattle.grammar.specs.Grammar.{Token, found, Parts}
 use Rattle.grammar.specs.Readings.{Text}
 use Rattle.grammar.specs.Rows.{Row, rows}
@@ -32,7 +32,6 @@ use Rattle.answers.proofs.Ahead.{Steps, steps_token, steps_over, steps_quote, st
 use Rattle.spans.specs.Nested.{Nested}
 use Rattle.spans.proofs.Laid.{Lies}
 use Rattle.spans.proofs.Readings.{rows_nested}
-open words use {text-then-hole, last-text}
 
 -- what a rule says at a place begins there
 data Begins (at : ℕ) : Step → Type 0 where
@@ -103,15 +102,15 @@ module _ (s : List ℕ) where
       go : (k : Part) → Parted i (length s) k → piece_of s i k ≡ found x j → Lies (length s) i j x
       go (Before e) (parted_before h m) q =
           let z : e ≡ j = cc in
-          let y : text_token text-then-hole i e (text_of (slice i e s)) ≡ x = cc in
-          let t = text_span text-then-hole i e (text_of (slice i e s)) in
+          let y : text_token text_then_hole i e (text_of (slice i e s)) ≡ x = cc in
+          let t = text_span text_then_hole i e (text_of (slice i e s)) in
           let a : x.start ≡ i = ap (λ (v : Token). v.start) (sym y) ∙ t.0 in
           let b : x.end ≡ e = ap (λ (v : Token). v.end) (sym y) ∙ t.1 in
           record { start = omega (arith, a); span = omega (arith, a, b, h); end = omega (arith, b, z); last = omega (arith, m, z) }
       go (Ends e) (parted_ends h m) q =
           let z : e + 1 ≡ j = cc in
-          let y : text_token last-text i e (text_of (slice i e s)) ≡ x = cc in
-          let t = text_span last-text i e (text_of (slice i e s)) in
+          let y : text_token last_text i e (text_of (slice i e s)) ≡ x = cc in
+          let t = text_span last_text i e (text_of (slice i e s)) in
           let a : x.start ≡ i = ap (λ (v : Token). v.start) (sym y) ∙ t.0 in
           let b : x.end ≡ e = ap (λ (v : Token). v.end) (sym y) ∙ t.1 in
           record { start = omega (arith, a); span = omega (arith, a, b, h); end = omega (arith, b, z); last = omega (arith, m, z) }

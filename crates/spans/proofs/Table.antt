@@ -4,16 +4,15 @@ use mathlib.Core.Bool.{Bool, true, false, not, ◌&&◌, ◌||◌, cond}
 use Prim.Native.Nat.{ℕ}
 use lib.Dec.{T, eqb}
 use Rattle.grammar.specs.Grammar.{Symbol, token, phrase, unless, note, left_side, text, Rule, one_of}
-use Rattle.grammar.specs.Kinds.{phrases}
+use Rattle.grammar.specs.Kinds.{TREE, DECLARATIONS, BRACES_INSIDE, ARMS}
 use Rattle.grammar.specs.Table.{rest_kinds}
 use Rattle.grammar.specs.Language.{roto, start}
 use Rattle.grammar.proofs.Pass.{each_passes}
-open phrases use {TREE, DECLARATIONS, BRACES-INSIDE, ARMS}
 
 -- each phrase of the kind leaves a row: all kinds but the tree, the arms of a match and what is the rest of a phrase; and the rest
 -- behind `{`
 abbrev pub leaves : ℕ → Bool
-leaves n = eqb n BRACES-INSIDE || not (one_of n (TREE ∷ ARMS ∷ rest_kinds))
+leaves n = eqb n BRACES_INSIDE || not (one_of n (TREE ∷ ARMS ∷ rest_kinds))
 
 -- the rest of a phrase that has a word or a row by then: all but the declarations of a tree
 abbrev pub goes_on : ℕ → Bool

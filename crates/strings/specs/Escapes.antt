@@ -8,8 +8,8 @@ use Rattle.numbers.specs.Digits.{digit_of, number_of, plain}
 use Rattle.numbers.specs.Texts.{until_byte}
 use Rattle.strings.specs.declared.Piece.{Piece}
 
--- a byte that stands for itself: below 128, no quote of its kind, no backslash; "A bare byte 13 is refused. A char is .. not a
--- bare byte 9, 10, 13 or `'`"
+-- a byte that stands for itself: below 128, no quote of its kind, no backslash; "A bare byte 13 is refused. A char is .. not a bare byte 9, 10, 13
+-- or `'`"
 abbrev pub is_bare : ℕ → ℕ → Bool
 is_bare quote b =
     (((ltb b 128 && not (eqb b 13)) && not (eqb b 92)) && not (eqb b quote)) && (not (eqb quote 39) || (not (eqb b 9) && not (eqb b 10)))

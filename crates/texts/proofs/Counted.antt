@@ -7,9 +7,8 @@ use Prim.Native.Nat.{ℕ, suc, ◌≤◌, ◌<◌}
 use lib.Dec.{eqb}
 use lib.ListN.{length, drop, length-drop}
 use native.Mathlib.Omega.{arith}
-use Rattle.texts.specs.Signs.{signs}
+use Rattle.texts.specs.Signs.{backslash, quote, open_brace, close_brace, small_u, capital_u}
 use Rattle.texts.specs.Parts.{past_open, past_close, past_code, past_escape, past_item, past_items}
-open signs use {backslash, quote, open-brace, close-brace, small-u, capital-u}
 
 -- fewer bytes are left than there were
 abbrev Fewer : ℕ → Option (List ℕ) → Type 0
@@ -27,12 +26,12 @@ either n false a b h k = k
 past_open_lem : (l : List ℕ) → Fewer (length l) (past_open l)
 unfolding past_open
 past_open_lem [] = tt
-past_open_lem (b ∷ l) = either (suc (length l)) (eqb b open-brace) (some l) none (omega arith) tt
+past_open_lem (b ∷ l) = either (suc (length l)) (eqb b open_brace) (some l) none (omega arith) tt
 
 past_close_lem : (l : List ℕ) → Fewer (length l) (past_close l)
 unfolding past_close
 past_close_lem [] = tt
-past_close_lem (b ∷ l) = either (suc (length l)) (eqb b close-brace) (some l) (past_close l) (omega arith) (more (past_close l) (omega arith) (past_close_lem l))
+past_close_lem (b ∷ l) = either (suc (length l)) (eqb b close_brace) (some l) (past_close l) (omega arith) (more (past_close l) (omega arith) (past_close_lem l))
 
 past_code_lem : (l : List ℕ) → Fewer (length l) (past_code l)
 unfolding past_code
@@ -45,12 +44,12 @@ past_code_lem l = go (past_open l) (past_open_lem l)
 past_escape_lem : (l : List ℕ) → Fewer (length l) (past_escape l)
 unfolding past_escape
 past_escape_lem [] = tt
-past_escape_lem (b ∷ l) = either (suc (length l)) (eqb b small-u || eqb b capital-u) (past_code l) (some l) (more (past_code l) (omega arith) (past_code_lem l)) (omega arith)
+past_escape_lem (b ∷ l) = either (suc (length l)) (eqb b small_u || eqb b capital_u) (past_code l) (some l) (more (past_code l) (omega arith) (past_code_lem l)) (omega arith)
 
 past_item_lem : (l : List ℕ) → Fewer (length l) (past_item l)
 unfolding past_item
 past_item_lem [] = tt
-past_item_lem (b ∷ l) = either (suc (length l)) (eqb b backslash) (past_escape l) (elim (eqb b open-brace) [ true ↦ past_open l | false ↦ elim (eqb b quote) [ true ↦ none | false ↦ some l ] ]) (more (past_escape l) (omega arith) (past_escape_lem l)) (either (suc (length l)) (eqb b open-brace) (past_open l) (elim (eqb b quote) [ true ↦ none | false ↦ some l ]) (more (past_open l) (omega arith) (past_open_lem l)) (either (suc (length l)) (eqb b quote) none (some l) tt (omega arith)))
+past_item_lem (b ∷ l) = either (suc (length l)) (eqb b backslash) (past_escape l) (elim (eqb b open_brace) [ true ↦ past_open l | false ↦ elim (eqb b quote) [ true ↦ none | false ↦ some l ] ]) (more (past_escape l) (omega arith) (past_escape_lem l)) (either (suc (length l)) (eqb b open_brace) (past_open l) (elim (eqb b quote) [ true ↦ none | false ↦ some l ]) (more (past_open l) (omega arith) (past_open_lem l)) (either (suc (length l)) (eqb b quote) none (some l) tt (omega arith)))
 
 all_past : (count l : List ℕ) → length l ≤ length count → past_item (past_items count l) ≡ none
 unfolding past_item past_items

@@ -15,14 +15,13 @@ use Rattle.strings.specs.Strings.{after, codes_of}
 use Rattle.strings.proofs.Strings.{codes_end, turn_none, turn_more, turn_width, turn_inside, turn_some}
 use Rattle.strings.proofs.Utf8.{length_utf8}
 use Rattle.texts.specs.declared.Halves.{Halves}
-use Rattle.texts.specs.Signs.{signs}
+use Rattle.texts.specs.Signs.{quote, open_brace, close_brace}
 use Rattle.texts.specs.Texts.{halved, halved_both, final_of, counted, text_of}
 use Rattle.texts.specs.Halves.{with_code}
 use Rattle.texts.proofs.Pairs.{folded, folded_halved}
-open signs use {quote, open-brace, close-brace}
 
 abbrev folded_both : Bool → Bool → List ℕ → List ℕ
-folded_both Had-open had-close cs = folded close-brace had-close (folded open-brace Had-open cs)
+folded_both Had-open had-close cs = folded close_brace had-close (folded open_brace Had-open cs)
 
 abbrev total : Halves → List ℕ → ℕ
 total h cs = h.size + length (encode (folded_both h.opened h.closed cs))
@@ -31,24 +30,24 @@ one_wider : (n c : ℕ) (cs : List ℕ) → n + width_of c + length (encode cs) 
 unfolding encode
 one_wider n c cs = omega (arith, length_utf8 c, length-append (utf8 c) (encode cs))
 
-not_both : (c : ℕ) → eqb c open-brace ≡ true → eqb c close-brace ≡ true → ⊥
-not_both c p r = let a = eqb→eq c open-brace (rw p tt) in let b = eqb→eq c close-brace (rw r tt) in omega arith
+not_both : (c : ℕ) → eqb c open_brace ≡ true → eqb c close_brace ≡ true → ⊥
+not_both c p r = let a = eqb→eq c open_brace (rw p tt) in let b = eqb→eq c close_brace (rw r tt) in omega arith
 
-half_step : (n c : ℕ) (cs : List ℕ) (o l p r : Bool) → eqb c open-brace ≡ p → eqb c close-brace ≡ r → total (with_code (record { size = n; opened = o; closed = l }) c) cs ≡ n + length (encode (folded_both o l (c ∷ cs)))
+half_step : (n c : ℕ) (cs : List ℕ) (o l p r : Bool) → eqb c open_brace ≡ p → eqb c close_brace ≡ r → total (with_code (record { size = n; opened = o; closed = l }) c) cs ≡ n + length (encode (folded_both o l (c ∷ cs)))
 unfolding with_code folded
 half_step n c cs o l true true p r = absurd (not_both c p r)
 half_step n c cs true true true false p r = rw p refl
 half_step n c cs true false true false p r = rw p refl
-half_step n c cs false true true false p r = rw (p, r) (one_wider n c (folded close-brace false (folded open-brace true cs)))
-half_step n c cs false false true false p r = rw (p, r) (one_wider n c (folded close-brace false (folded open-brace true cs)))
+half_step n c cs false true true false p r = rw (p, r) (one_wider n c (folded close_brace false (folded open_brace true cs)))
+half_step n c cs false false true false p r = rw (p, r) (one_wider n c (folded close_brace false (folded open_brace true cs)))
 half_step n c cs true true false true p r = rw (p, r) refl
 half_step n c cs false true false true p r = rw (p, r) refl
-half_step n c cs true false false true p r = rw (p, r) (one_wider n c (folded close-brace true (folded open-brace false cs)))
-half_step n c cs false false false true p r = rw (p, r) (one_wider n c (folded close-brace true (folded open-brace false cs)))
-half_step n c cs true true false false p r = rw (p, r) (one_wider n c (folded close-brace false (folded open-brace false cs)))
-half_step n c cs true false false false p r = rw (p, r) (one_wider n c (folded close-brace false (folded open-brace false cs)))
-half_step n c cs false true false false p r = rw (p, r) (one_wider n c (folded close-brace false (folded open-brace false cs)))
-half_step n c cs false false false false p r = rw (p, r) (one_wider n c (folded close-brace false (folded open-brace false cs)))
+half_step n c cs true false false true p r = rw (p, r) (one_wider n c (folded close_brace true (folded open_brace false cs)))
+half_step n c cs false false false true p r = rw (p, r) (one_wider n c (folded close_brace true (folded open_brace false cs)))
+half_step n c cs true true false false p r = rw (p, r) (one_wider n c (folded close_brace false (folded open_brace false cs)))
+half_step n c cs true false false false p r = rw (p, r) (one_wider n c (folded close_brace false (folded open_brace false cs)))
+half_step n c cs false true false false p r = rw (p, r) (one_wider n c (folded close_brace false (folded open_brace false cs)))
+half_step n c cs false false false false p r = rw (p, r) (one_wider n c (folded close_brace false (folded open_brace false cs)))
 
 abbrev from : Halves → Option (List ℕ) → Size
 from h (some cs) = Size.Is (total h cs)
@@ -56,14 +55,14 @@ from h none = Size.None
 
 from_more : (h : Halves) (c : ℕ) (o : Option (List ℕ)) → from (with_code h c) o ≡ from h (after c o)
 from_more h c none = refl
-from_more h c (some cs) = ap Size.Is (half_step h.size c cs h.opened h.closed (eqb c open-brace) (eqb c close-brace) refl refl)
+from_more h c (some cs) = ap Size.Is (half_step h.size c cs h.opened h.closed (eqb c open_brace) (eqb c close_brace) refl refl)
 
 -- a code point adds its bytes at most
 with_most : (h : Halves) (c : ℕ) → (with_code h c).size ≤ h.size + width_of c
 unfolding with_code
-with_most h c = go (h.opened && eqb c open-brace) (h.closed && eqb c close-brace)
+with_most h c = go (h.opened && eqb c open_brace) (h.closed && eqb c close_brace)
   where
-    go : (a b : Bool) → (cond {A = Halves} a (record { size = h.size; opened = false; closed = h.closed }) (cond {A = Halves} b (record { size = h.size; opened = false; closed = false }) (record { size = h.size + width_of c; opened = eqb c open-brace; closed = eqb c close-brace }))).size ≤ h.size + width_of c
+    go : (a b : Bool) → (cond {A = Halves} a (record { size = h.size; opened = false; closed = h.closed }) (cond {A = Halves} b (record { size = h.size; opened = false; closed = false }) (record { size = h.size + width_of c; opened = eqb c open_brace; closed = eqb c close_brace }))).size ≤ h.size + width_of c
     go true b = omega arith
     go false true = omega arith
     go false false = omega arith
@@ -79,7 +78,7 @@ unfolding text_of
 counts_start t = record { left = go (codes_of t); small = omega arith; inside = omega arith }
   where
     both : (cs : List ℕ) → folded_both false false cs ≡ halved_both cs
-    both cs = folded_halved close-brace (folded open-brace false cs) ∙ ap (halved close-brace) (folded_halved open-brace cs)
+    both cs = folded_halved close_brace (folded open_brace false cs) ∙ ap (halved close_brace) (folded_halved open_brace cs)
 
     go : (o : Option (List ℕ)) → from (record { size = 0; opened = false; closed = false }) o ≡ counted (final_of o)
     go (some cs) = ap Size.Is (let e = ap (λ (l : List ℕ). length (encode l)) (both cs) in omega arith)

@@ -11,11 +11,10 @@ use Rattle.texts.specs.declared.Mode.{Mode}
 use Rattle.texts.specs.declared.Mode.TheVariants.{Text, Escape, Letter, Code, Brace, Hole, Last, Torn}
 use Rattle.texts.specs.declared.Part.{Part}
 use Rattle.texts.specs.declared.Part.TheVariants.{Before, Ends, None}
-use Rattle.texts.specs.Signs.{signs}
+use Rattle.texts.specs.Signs.{backslash, quote, open_brace, close_brace, small_u, capital_u}
 use Rattle.texts.specs.Parts.{part_at}
 use Rattle.texts.specs.Modes.{mode_after, scans, ended_at, modes_from}
 use Rattle.texts.proofs.Items.{modes_part}
-open signs use {backslash, quote, open-brace, close-brace, small-u, capital-u}
 
 pub data Parted (base top : ℕ) : Part → Type 0 where
   parted_before : {e : ℕ} → base ≤ e → e + 2 ≤ top → Parted base top (Before e)
@@ -39,11 +38,11 @@ of_two false x y h k = k
 
 least_after : (m : Mode) (b : ℕ) → least (mode_after m b) ≤ least m + 1
 unfolding mode_after
-least_after Text b = of_two (eqb b backslash) Escape (cond (eqb b open-brace) Brace (cond (eqb b quote) Last Text)) (omega arith) (of_two (eqb b open-brace) Brace (cond (eqb b quote) Last Text) (omega arith) (of_two (eqb b quote) Last Text (omega arith) (omega arith)))
-least_after Escape b = of_two (eqb b small-u || eqb b capital-u) Letter Text (omega arith) (omega arith)
-least_after Letter b = of_two (eqb b open-brace) Code Torn (omega arith) (omega arith)
-least_after Code b = of_two (eqb b close-brace) Text Code (omega arith) (omega arith)
-least_after Brace b = of_two (eqb b open-brace) Text Hole (omega arith) (omega arith)
+least_after Text b = of_two (eqb b backslash) Escape (cond (eqb b open_brace) Brace (cond (eqb b quote) Last Text)) (omega arith) (of_two (eqb b open_brace) Brace (cond (eqb b quote) Last Text) (omega arith) (of_two (eqb b quote) Last Text (omega arith) (omega arith)))
+least_after Escape b = of_two (eqb b small_u || eqb b capital_u) Letter Text (omega arith) (omega arith)
+least_after Letter b = of_two (eqb b open_brace) Code Torn (omega arith) (omega arith)
+least_after Code b = of_two (eqb b close_brace) Text Code (omega arith) (omega arith)
+least_after Brace b = of_two (eqb b open_brace) Text Hole (omega arith) (omega arith)
 least_after Hole b = omega arith
 least_after Last b = omega arith
 least_after Torn b = omega arith

@@ -5,16 +5,15 @@ use Rattle.texts.specs.declared.Mode.{Mode}
 use Rattle.texts.specs.declared.Mode.TheVariants.{Text, Escape, Letter, Code, Brace, Hole, Last, Torn}
 use Rattle.texts.specs.declared.Part.{Part}
 use Rattle.texts.specs.declared.Part.TheVariants.{Before, Ends, None}
-use Rattle.texts.specs.Signs.{signs}
-open signs use {backslash, quote, open-brace, close-brace, small-u, capital-u}
+use Rattle.texts.specs.Signs.{backslash, quote, open_brace, close_brace, small_u, capital_u}
 
 -- how the text stands behind one more byte
 unfoldable pub mode_after : Mode → ℕ → Mode
-mode_after Text b = cond (eqb b backslash) Escape (cond (eqb b open-brace) Brace (cond (eqb b quote) Last Text))
-mode_after Escape b = cond (eqb b small-u || eqb b capital-u) Letter Text
-mode_after Letter b = cond (eqb b open-brace) Code Torn
-mode_after Code b = cond (eqb b close-brace) Text Code
-mode_after Brace b = cond (eqb b open-brace) Text Hole
+mode_after Text b = cond (eqb b backslash) Escape (cond (eqb b open_brace) Brace (cond (eqb b quote) Last Text))
+mode_after Escape b = cond (eqb b small_u || eqb b capital_u) Letter Text
+mode_after Letter b = cond (eqb b open_brace) Code Torn
+mode_after Code b = cond (eqb b close_brace) Text Code
+mode_after Brace b = cond (eqb b open_brace) Text Hole
 mode_after Hole b = Hole
 mode_after Last b = Last
 mode_after Torn b = Torn

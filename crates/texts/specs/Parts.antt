@@ -4,18 +4,17 @@ use Rattle.std.specs.Prelude.{ℕ, ◌-◌, List, [], ◌∷◌, true, false, �
 use Rattle.std.proofs.Math.Option.{Option, none, some}
 use Rattle.texts.specs.declared.Part.{Part}
 use Rattle.texts.specs.declared.Part.TheVariants.{Before, Ends, None}
-use Rattle.texts.specs.Signs.{signs}
-open signs use {backslash, quote, open-brace, close-brace, small-u, capital-u}
+use Rattle.texts.specs.Signs.{backslash, quote, open_brace, close_brace, small_u, capital_u}
 
 -- what stands behind a `{` at the front; none: no `{` is there
 unfoldable pub past_open : List ℕ → Option (List ℕ)
 past_open [] = none
-past_open (b ∷ l) = elim (eqb b open-brace) [ true ↦ some l | false ↦ none ]
+past_open (b ∷ l) = elim (eqb b open_brace) [ true ↦ some l | false ↦ none ]
 
 -- what stands behind the next `}`
 unfoldable pub past_close : List ℕ → Option (List ℕ)
 past_close [] = none
-past_close (b ∷ l) = elim (eqb b close-brace) [ true ↦ some l | false ↦ past_close l ]
+past_close (b ∷ l) = elim (eqb b close_brace) [ true ↦ some l | false ↦ past_close l ]
 
 -- "We need a `{` after `\u` and `\U`"
 unfoldable pub past_code : List ℕ → Option (List ℕ)
@@ -24,7 +23,7 @@ past_code l = elim (past_open l) [ none ↦ none | some inside ↦ past_close in
 -- what stands behind the rest of an escape, whose backslash was read
 unfoldable pub past_escape : List ℕ → Option (List ℕ)
 past_escape [] = none
-past_escape (b ∷ l) = elim (eqb b small-u || eqb b capital-u) [ true ↦ past_code l | false ↦ some l ]
+past_escape (b ∷ l) = elim (eqb b small_u || eqb b capital_u) [ true ↦ past_code l | false ↦ some l ]
 
 -- what stands behind the item at the front; none: no item is there
 unfoldable pub past_item : List ℕ → Option (List ℕ)
@@ -32,7 +31,7 @@ past_item [] = none
 past_item (b ∷ l) =
     elim (eqb b backslash) [
       | true ↦ past_escape l
-      | false ↦ elim (eqb b open-brace) [ true ↦ past_open l | false ↦ elim (eqb b quote) [ true ↦ none | false ↦ some l ] ]
+      | false ↦ elim (eqb b open_brace) [ true ↦ past_open l | false ↦ elim (eqb b quote) [ true ↦ none | false ↦ some l ] ]
     ]
 
 -- what stands behind all the items; the first list only counts them, and a source is long enough for that (proofs/Counted.antt)
@@ -40,12 +39,12 @@ unfoldable pub past_items : List ℕ → List ℕ → List ℕ
 past_items [] l = l
 past_items (x ∷ count) l = elim (past_item l) [ none ↦ l | some rest ↦ past_items count rest ]
 
--- The piece that ends at a place, by what stands from there on: "Check for the end of the string, which is an unescaped quote"; a
--- hole's `{` and a byte, "We bump to _before_ the curly"; with anything else `f_string_part` gives no piece.
+-- The piece that ends at a place, by what stands from there on: "Check for the end of the string, which is an unescaped quote"; a hole's `{`
+-- and a byte, "We bump to _before_ the curly"; with anything else `f_string_part` gives no piece.
 unfoldable pub end_at : ℕ → List ℕ → Part
 end_at e [] = None
 end_at e (b ∷ []) = elim (eqb b quote) [ true ↦ Ends e | false ↦ None ]
-end_at e (b ∷ c ∷ l) = elim (eqb b quote) [ true ↦ Ends e | false ↦ elim (eqb b open-brace) [ true ↦ Before e | false ↦ None ] ]
+end_at e (b ∷ c ∷ l) = elim (eqb b quote) [ true ↦ Ends e | false ↦ elim (eqb b open_brace) [ true ↦ Before e | false ↦ None ] ]
 
 -- The piece of text from a place on: it ends where the items end.
 unfoldable pub part_at : List ℕ → ℕ → Part

@@ -2,5 +2,20 @@
 use Rattle.std.specs.Prelude.{ℕ}
 use Prim.Native.Char.{code}
 
-abbrev pub signs : record { backslash : ℕ; quote : ℕ; open-brace : ℕ; close-brace : ℕ; small-u : ℕ; capital-u : ℕ }
-signs = record { backslash = code "\\"; quote = code "\""; open-brace = code "{"; close-brace = code "}"; small-u = code "u"; capital-u = code "U" }
+abbrev pub backslash : ℕ
+backslash = code "\\"
+
+abbrev pub quote : ℕ
+quote = code "\""
+
+abbrev pub open_brace : ℕ
+open_brace = code "{"
+
+abbrev pub close_brace : ℕ
+close_brace = code "}"
+
+abbrev pub small_u : ℕ
+small_u = code "u"
+
+abbrev pub capital_u : ℕ
+capital_u = code "U"

@@ -1,11 +1,10 @@
--- C-11, a piece of an f-string's text: "A text piece is unescaped first and pairs of braces are halved after, as in the Rust".
+-- C-11: what a piece of an f-string's text is worth: "A text piece is unescaped first and pairs of braces are halved after, as in the Rust".
 use Rattle.std.specs.Prelude.{ℕ, List, [], ◌∷◌, true, false, ◌&&◌, eqb, length}
 use Rattle.std.proofs.Math.Option.{Option, none, some}
 use Rattle.strings.specs.declared.Size.{Size}
 use Rattle.strings.specs.Strings.{codes_of}
 use Rattle.strings.specs.Utf8.{encode}
-use Rattle.texts.specs.Signs.{signs}
-open signs use {open-brace, close-brace}
+use Rattle.texts.specs.Signs.{open_brace, close_brace}
 
 -- the Rust's `replace` of two of a kind by one: from left to right, and what was halved isn't looked at again
 unfoldable pub halved : ℕ → List ℕ → List ℕ
@@ -15,7 +14,7 @@ halved brace (x ∷ y ∷ l) = elim (eqb x brace && eqb y brace) [ true ↦ brac
 
 -- `s.replace("{{", "{").replace("}}", "}")`; "a lone `}` in text is kept"
 abbrev pub halved_both : List ℕ → List ℕ
-halved_both codes = halved close-brace (halved open-brace codes)
+halved_both codes = halved close_brace (halved open_brace codes)
 
 abbrev pub final_of : Option (List ℕ) → Option (List ℕ)
 final_of (some codes) = some (encode (halved_both codes))

@@ -26,14 +26,34 @@ one_signs =
     ("{" is 40) ∷ ("}" is 41) ∷ ("(" is 42) ∷ (")" is 43) ∷ ("[" is 44) ∷ ("]" is 45) ∷ (":" is 46) ∷ (";" is 47) ∷ ("," is 48) ∷ ("." is 49) ∷
     ("=" is 50) ∷ ("?" is 51) ∷ ("!" is 52) ∷ ("-" is 53) ∷ ("+" is 54) ∷ ("*" is 55) ∷ ("/" is 56) ∷ ("%" is 57) ∷ ("<" is 58) ∷ (">" is 59) ∷ []
 
--- "`true` or `false`", and beside them "the 22 in `keyword_or_ident`", whose order gives the numbers; here by length and alphabet
-unfoldable pub keywords : List Entry
+-- a line of the manual's page: how many letters, and the words that have so many
+pub record Line : Type 0 where
+  pub letters : ℕ
+  pub words : List Entry
+
+abbrev pub line : ℕ → List Entry → Line
+line n ws = record { letters = n; words = ws }
+
+-- "keywords are the 22 in `keyword_or_ident`", whose order gives the numbers: the page has them by length, and each length's by the alphabet
+unfoldable pub page : List Line
 unfolding bytes
-keywords =
-    ("true" is 12) ∷ ("false" is 12) ∷ ("fn" is 68) ∷ ("if" is 69) ∷ ("in" is 71) ∷ ("dep" is 62) ∷ ("for" is 67) ∷
-    ("let" is 72) ∷ ("pkg" is 74) ∷ ("std" is 78) ∷ ("else" is 63) ∷ ("enum" is 64) ∷ ("test" is 80) ∷ ("const" is 61) ∷
-    ("match" is 73) ∷ ("super" is 79) ∷ ("while" is 81) ∷ ("accept" is 60) ∷ ("filter" is 65) ∷ ("import" is 70) ∷
-    ("record" is 75) ∷ ("reject" is 76) ∷ ("return" is 77) ∷ ("filtermap" is 66) ∷ []
+page =
+    line 2 (("fn" is 68) ∷ ("if" is 69) ∷ ("in" is 71) ∷ []) ∷
+    line 3 (("dep" is 62) ∷ ("for" is 67) ∷ ("let" is 72) ∷ ("pkg" is 74) ∷ ("std" is 78) ∷ []) ∷
+    line 4 (("else" is 63) ∷ ("enum" is 64) ∷ ("test" is 80) ∷ []) ∷
+    line 5 (("const" is 61) ∷ ("match" is 73) ∷ ("super" is 79) ∷ ("while" is 81) ∷ []) ∷
+    line 6 (("accept" is 60) ∷ ("filter" is 65) ∷ ("import" is 70) ∷ ("record" is 75) ∷ ("reject" is 76) ∷ ("return" is 77) ∷ []) ∷
+    line 9 (("filtermap" is 66) ∷ []) ∷ []
+
+-- all words of a page
+unfoldable pub words_of : List Line → List Entry
+words_of [] = []
+words_of (l ∷ ls) = l.words ++ words_of ls
+
+-- "`true` or `false`", and beside them the keywords: the words of the page
+unfoldable pub keywords : List Entry
+unfolding bytes page words_of
+keywords = ("true" is 12) ∷ ("false" is 12) ∷ words_of page
 
 -- the word that a text is in a table, or else another
 unfoldable pub word_in : List Entry → List ℕ → ℕ → ℕ
@@ -50,30 +70,6 @@ one_sign b = word_in one_signs (b ∷ []) 0
 unfoldable pub name_word : List ℕ → ℕ
 unfolding bytes
 name_word t = cond (same t (bytes "_")) 14 (word_in keywords t 13)
-
--- a line of the manual's page: how many letters, and the words that have so many
-pub record Line : Type 0 where
-  pub letters : ℕ
-  pub words : List Entry
-
-abbrev pub line : ℕ → List Entry → Line
-line n ws = record { letters = n; words = ws }
-
--- the same 22 as the code has them, a line for each length (proofs/keywords/name_word: its words are those above)
-unfoldable pub page : List Line
-unfolding bytes
-page =
-    line 2 (("fn" is 68) ∷ ("if" is 69) ∷ ("in" is 71) ∷ []) ∷
-    line 3 (("dep" is 62) ∷ ("for" is 67) ∷ ("let" is 72) ∷ ("pkg" is 74) ∷ ("std" is 78) ∷ []) ∷
-    line 4 (("else" is 63) ∷ ("enum" is 64) ∷ ("test" is 80) ∷ []) ∷
-    line 5 (("const" is 61) ∷ ("match" is 73) ∷ ("super" is 79) ∷ ("while" is 81) ∷ []) ∷
-    line 6 (("accept" is 60) ∷ ("filter" is 65) ∷ ("import" is 70) ∷ ("record" is 75) ∷ ("reject" is 76) ∷ ("return" is 77) ∷ []) ∷
-    line 9 (("filtermap" is 66) ∷ []) ∷ []
-
--- all words of a page
-unfoldable pub words_of : List Line → List Entry
-words_of [] = []
-words_of (l ∷ ls) = l.words ++ words_of ls
 
 -- a keyword is a word of the page; another text is a name
 unfoldable pub keyword_of : List ℕ → ℕ

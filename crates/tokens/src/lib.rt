@@ -113,7 +113,7 @@ fn colons(s: &[u8], at: usize) -> Fit
     if chars::byte_at(s, b) != 58 {
         return Fit::No;
     }
-    Fit::To(chars::past_address(s, b + 1), word::IPV6)
+    Fit::To(chars::past(s, b + 1, Class::HexColon), word::IPV6)
 }
 
 // `.` and a digit.

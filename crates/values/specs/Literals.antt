@@ -1,7 +1,7 @@
 -- The row of a literal token, by the token's code and its text.
 use Rattle.std.specs.Prelude.{◌&&◌, cond, ℕ, List, [], ◌∷◌, length, eqb, leb}
 use Rattle.std.proofs.Math.Seq.{slice}
-use Rattle.rows.specs.Kinds.{kinds}
+use Rattle.rows.specs.Kinds as kinds
 use Rattle.chars.specs.Texts.{bytes, same}
 use Rattle.numbers.specs.declared.Number.{Number}
 use Rattle.numbers.specs.declared.Amount.{Amount}
@@ -69,7 +69,7 @@ literal_of code text =
 unfoldable pub literal_at : ℕ → ℕ → ℕ → List ℕ → Literal
 literal_at code start end s = cond (leb start end && leb end (length s)) (literal_of code (slice start end s)) Literal.None
 
--- What the cases of a literal say in document 01's numbers: kind, value and detail, behind 0; or 7, "literal without a value"
+-- What the cases of a literal say in document 01's numbers: its row, kind, value and detail, behind 0; or 7, "literal without a value"
 unfoldable pub literal_numbers : Literal → List ℕ
 literal_numbers (Literal.Is k v d) = 0 ∷ k ∷ v ∷ d ∷ []
 literal_numbers Literal.None = 7 ∷ 0 ∷ 0 ∷ 0 ∷ []

@@ -75,7 +75,7 @@ returns-6 c = rw c.before.before.match.keys6 (second_in c.before.before.before.a
 
 returns-7 : tie.Need-returns-7
 unfolding before_operand packed
-returns-7 c = rw c.before.before.match.keys7 (first_in c.before.before.before.args.phase _ c.before.return_word.result (canon.nth return_words (pred c.before.before.before.args.detail) ∷ []) c.first3.ensures c.before.return_word.ensures)
+returns-7 c = rw c.before.before.match.keys7 (first_in c.before.before.before.args.phase _ c.before.return-word.result (canon.nth return_words (pred c.before.before.before.args.detail) ∷ []) c.first3.ensures c.before.return-word.ensures)
 
 returns-8 : tie.Need-returns-8
 unfolding before_operand packed

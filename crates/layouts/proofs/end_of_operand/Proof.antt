@@ -35,7 +35,7 @@ returns-2 c = rw c.match.keys2 refl
 
 returns-3 : tie.Need-returns-3
 unfolding end_of_operand packed
-returns-3 c = rw c.before.before.match.keys3 (first_in c.before.before.before.args.phase _ c.before.return_word.result (canon.nth return_words (pred c.before.before.before.args.detail) ∷ []) c.first.ensures c.before.return_word.ensures)
+returns-3 c = rw c.before.before.match.keys3 (first_in c.before.before.before.args.phase _ c.before.return-word.result (canon.nth return_words (pred c.before.before.before.args.detail) ∷ []) c.first.ensures c.before.return-word.ensures)
 
 returns-4 : tie.Need-returns-4
 unfolding end_of_operand packed

@@ -42,7 +42,7 @@ same-length-3 : tie.Need-same-length-3
 same-length-3 c = search rules
 
 returns : tie.Need-returns
-returns c = record { answer = c.before.before.before.before.before.before.before.before.before.before.before.before.before.before.before.before.before.before.before.evaluate.result; permitted = c.before.before.before.before.before.before.before.before.before.before.before.before.before.before.before.before.before.before.before.evaluate.ensures; numbers = stored_constant _ _ _ c.before.before.before.before.before.before.before.before.before.before.before.before.before.answer.ensures c.before.before.before.before.before.before.before.before.declared-type.ensures c.before.before.before.bits.ensures c.before.before.before.before.before.before.before.before.before.before.before.before.put-answer.ensures c.before.before.before.before.before.before.before.put.ensures c.before.before.put2.ensures }
+returns c = record { constant = c.before.before.before.before.before.before.before.before.before.before.before.before.before.before.before.before.before.before.before.evaluate.result; permitted = c.before.before.before.before.before.before.before.before.before.before.before.before.before.before.before.before.before.before.before.evaluate.ensures; numbers = stored_constant _ _ _ c.before.before.before.before.before.before.before.before.before.before.before.before.before.answer.ensures c.before.before.before.before.before.before.before.before.declared-type.ensures c.before.before.before.bits.ensures c.before.before.before.before.before.before.before.before.before.before.before.before.put-answer.ensures c.before.before.before.before.before.before.before.put.ensures c.before.before.put2.ensures }
 
 pub lekhyundo-constant-spec : {M : Type 1} → statement M
 lekhyundo-constant-spec =

@@ -1,4 +1,5 @@
 use mathlib.Core.Path.{refl}
+use Rattle.setter.specs.Steps.{answer_of}
 use Rattle.lekhyundo.specs.Numbers.{printed_numbers}
 use Rattle.lekhyundo.proofs.Stores.{stored5}
 use borrow.Author.Rules.{rules}
@@ -42,7 +43,8 @@ same-length-4 c = search rules
 returns : tie.Need-returns
 unfolding printed_numbers
 returns c = record {
-  answer = c.before.before.before.before.before.before.before.before.before.before.before.before.before.before.before.before.before.before.before.before.before.before.before.before.before.before.print-tree.result;
+  answer = answer_of c.before.before.before.before.before.before.before.before.before.before.before.before.before.before.before.before.before.before.before.before.before.before.before.before.before.before.print-tree.result;
+  tests = c.before.before.before.before.before.before.before.before.before.before.before.before.before.before.before.before.before.before.before.before.before.before.before.before.before.before.print-tree.result.tests;
   permitted = c.before.before.before.before.before.before.before.before.before.before.before.before.before.before.before.before.before.before.before.before.before.before.before.before.before.before.print-tree.ensures;
   numbers =
       stored5 c.before.before.before.before.before.before.before.before.before.before.before.before.before.before.before.before.before.before.before.before.before.before.before.before.before.before.print-tree.result.number c.before.before.before.before.before.before.before.before.before.before.before.before.before.before.before.before.before.before.before.before.before.before.before.before.before.before.print-tree.result.start c.before.before.before.before.before.before.before.before.before.before.before.before.before.before.before.before.before.before.before.before.before.before.before.before.before.before.print-tree.result.end c.before.before.before.before.before.before.before.before.before.before.before.before.before.before.before.before.before.before.before.before.before.before.before.before.before.before.print-tree.result.count c.before.before.before.before.before.before.before.before.before.before.before.before.before.before.before.before.before.before.before.before.before.before.before.before.before.before.before.before.before.before.before.before.before.before.before.args.answer.now

@@ -1,4 +1,5 @@
 use mathlib.Core.Path.{refl}
+use Rattle.salvage.specs.Steps.{answer_of}
 use Rattle.lekhyundo.specs.Numbers.{salvaged_numbers}
 use Rattle.lekhyundo.proofs.Stores.{stored5}
 use borrow.Author.Rules.{rules}
@@ -42,7 +43,8 @@ same-length-4 c = search rules
 returns : tie.Need-returns
 unfolding salvaged_numbers
 returns c = record {
-  answer = c.before.before.before.before.before.before.before.before.before.before.before.before.before.before.before.before.before.before.before.before.before.before.before.before.before.before.salvage.result;
+  answer = answer_of c.before.before.before.before.before.before.before.before.before.before.before.before.before.before.before.before.before.before.before.before.before.before.before.before.before.before.salvage.result;
+  dropped = c.before.before.before.before.before.before.before.before.before.before.before.before.before.before.before.before.before.before.before.before.before.before.before.before.before.before.salvage.result.ranges;
   permitted = c.before.before.before.before.before.before.before.before.before.before.before.before.before.before.before.before.before.before.before.before.before.before.before.before.before.before.salvage.ensures;
   numbers =
       stored5 c.before.before.before.before.before.before.before.before.before.before.before.before.before.before.before.before.before.before.before.before.before.before.before.before.before.before.salvage.result.number c.before.before.before.before.before.before.before.before.before.before.before.before.before.before.before.before.before.before.before.before.before.before.before.before.before.before.salvage.result.start c.before.before.before.before.before.before.before.before.before.before.before.before.before.before.before.before.before.before.before.before.before.before.before.before.before.before.salvage.result.end c.before.before.before.before.before.before.before.before.before.before.before.before.before.before.before.before.before.before.before.before.before.before.before.before.before.before.salvage.result.count c.before.before.before.before.before.before.before.before.before.before.before.before.before.before.before.before.before.before.before.before.before.before.before.before.before.before.before.before.before.before.before.before.before.before.args.answer.now

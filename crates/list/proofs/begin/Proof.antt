@@ -1,5 +1,5 @@
 use mathlib.Core.Path.{ap, ◌∙◌}
-use Rattle.list.specs.States.{failed, standing, begun_by, begun}
+use Rattle.list.specs.States.{standing, begun_by, begun}
 use borrow.Author.Rules.{rules}
 use Rattle.list.proofs.begin.Statement.{statement}
 use Rattle.list.proofs.begin.Tie as tie
@@ -16,11 +16,8 @@ new-requires c κs = search rules
 stand-requires : tie.Need-stand-requires
 stand-requires c κs = search rules
 
-enum-known-r : tie.Need-enum-known-r
-enum-known-r c = search rules
-
-refused-answer-requires : tie.Need-refused-answer-requires
-refused-answer-requires c κs = search rules
+enum-told-2 : tie.Need-enum-told-2
+enum-told-2 c = search rules
 
 refuse-requires : tie.Need-refuse-requires
 refuse-requires c κs = search rules
@@ -31,7 +28,7 @@ returns c = rw (← c.before.before.before.before.check-source.ensures.0, c.befo
 
 returns-2 : tie.Need-returns-2
 unfolding begun begun_by
-returns-2 c = rw (← c.before.before.before.before.before.check-source.ensures.0, c.before.before.before.r.given.1) (c.refuse.ensures ∙ ap failed c.before.refused-answer.ensures)
+returns-2 c = rw (← c.before.before.before.check-source.ensures.0, c.before.enum-told2.given.1) c.refuse.ensures
 
 pub begin-spec : {M : Type 1} → statement M
 begin-spec =
@@ -41,8 +38,7 @@ begin-spec =
     enum_told
     new-requires
     stand-requires
-    enum-known-r
-    refused-answer-requires
+    enum-told-2
     refuse-requires
     returns
     returns-2)

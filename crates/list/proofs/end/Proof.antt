@@ -1,6 +1,5 @@
-use mathlib.Core.Path.{ap, ◌∙◌}
 use borrow.Author.Tests.{eq-eqb, ne_eqb}
-use Rattle.list.specs.States.{failed, complete, ended}
+use Rattle.list.specs.States.{complete, ended}
 use borrow.Author.Rules.{rules}
 use Rattle.list.proofs.end.Statement.{statement}
 use Rattle.list.proofs.end.Tie as tie
@@ -11,25 +10,19 @@ enum-known-step c = search rules
 enum_told : tie.Need-enum-told
 enum_told c = search rules
 
-count-tokens-requires : tie.Need-count-tokens-requires
-count-tokens-requires c κs = search rules
-
 refuse-requires : tie.Need-refuse-requires
 refuse-requires c κs = search rules
 
 returns : tie.Need-returns
 unfolding ended
-returns c = rw c.before.before.enum_told.given.1 (c.refuse.ensures ∙ ap failed c.before.count-tokens.ensures)
-
-refused-answer-requires : tie.Need-refused-answer-requires
-refused-answer-requires c κs = search rules
+returns c = rw c.before.enum_told.given.1 c.refuse.ensures
 
 refuse-requires-2 : tie.Need-refuse-requires-2
 refuse-requires-2 c κs = search rules
 
 returns-2 : tie.Need-returns-2
 unfolding ended
-returns-2 c = rw (c.before.before.before.before.before.step.given.1, ne_eqb _ _ c.before.before.if1.true) (c.refuse2.ensures ∙ ap failed c.before.refused-answer.ensures)
+returns-2 c = rw (c.before.before.before.before.step.given.1, ne_eqb _ _ c.before.if1.true) c.refuse2.ensures
 
 new-requires : tie.Need-new-requires
 new-requires c κs = search rules
@@ -44,10 +37,8 @@ end-spec =
     (tie.spec
     enum-known-step
     enum_told
-    count-tokens-requires
     refuse-requires
     returns
-    refused-answer-requires
     refuse-requires-2
     returns-2
     new-requires

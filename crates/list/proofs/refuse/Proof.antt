@@ -6,9 +6,12 @@ use Rattle.list.proofs.refuse.Tie as tie
 new-requires : tie.Need-new-requires
 new-requires c κs = search rules
 
+count-tokens-requires : tie.Need-count-tokens-requires
+count-tokens-requires c κs = search rules
+
 returns : tie.Need-returns
 unfolding failed
-returns c = rw c.new.ensures
+returns c = rw (c.before.new.ensures, c.count-tokens.ensures)
 
 pub refuse-spec : {M : Type 1} → statement M
-refuse-spec = tie.close (tie.spec new-requires returns)
+refuse-spec = tie.close (tie.spec new-requires count-tokens-requires returns)

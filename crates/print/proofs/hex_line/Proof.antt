@@ -31,11 +31,11 @@ loop-less c = search rules
 loop-again : tie.Need-loop-preserved invariant-loop decreases-loop
 loop-again c = search rules
 
-slice-aggregate-say : tie.Need-slice-aggregate-say invariant-loop decreases-loop
-slice-aggregate-say c = search rules
+slice-aggregate-write-all : tie.Need-slice-aggregate-write-all invariant-loop decreases-loop
+slice-aggregate-write-all c = search rules
 
-say-requires : tie.Need-say-requires invariant-loop decreases-loop
-say-requires c κs = search rules
+write-all-requires : tie.Need-write-all-requires invariant-loop decreases-loop
+write-all-requires c κs = search rules
 
 returns : tie.Need-returns invariant-loop decreases-loop
 returns c = search rules
@@ -53,6 +53,6 @@ hex-line-spec =
     add-i
     loop-less
     loop-again
-    slice-aggregate-say
-    say-requires
+    slice-aggregate-write-all
+    write-all-requires
     returns)

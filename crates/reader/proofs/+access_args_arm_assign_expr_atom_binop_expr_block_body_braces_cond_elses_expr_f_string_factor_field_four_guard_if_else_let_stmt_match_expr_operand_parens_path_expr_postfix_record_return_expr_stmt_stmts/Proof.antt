@@ -53,7 +53,7 @@ use Rattle.reader.proofs.elses.Reads as elses
 use Rattle.reader.proofs.+access_args_arm_assign_expr_atom_binop_expr_block_body_braces_cond_elses_expr_f_string_factor_field_four_guard_if_else_let_stmt_match_expr_operand_parens_path_expr_postfix_record_return_expr_stmt_stmts.Lts-elses as elses-lts
 use Rattle.reader.proofs.expr.Reads as expr
 use Rattle.reader.proofs.+access_args_arm_assign_expr_atom_binop_expr_block_body_braces_cond_elses_expr_f_string_factor_field_four_guard_if_else_let_stmt_match_expr_operand_parens_path_expr_postfix_record_return_expr_stmt_stmts.Lts-expr as expr-lts
-use Rattle.reader.proofs.f_string.Reads as f_string
+use Rattle.reader.proofs.f_string.Reads as f-string
 use Rattle.reader.proofs.+access_args_arm_assign_expr_atom_binop_expr_block_body_braces_cond_elses_expr_f_string_factor_field_four_guard_if_else_let_stmt_match_expr_operand_parens_path_expr_postfix_record_return_expr_stmt_stmts.Lts-f_string as f-string-lts
 use Rattle.reader.proofs.factor.Reads as factor
 use Rattle.reader.proofs.+access_args_arm_assign_expr_atom_binop_expr_block_body_braces_cond_elses_expr_f_string_factor_field_four_guard_if_else_let_stmt_match_expr_operand_parens_path_expr_postfix_record_return_expr_stmt_stmts.Lts-factor as factor-lts
@@ -415,7 +415,7 @@ pub +access-args-arm-assign-expr-atom-binop-expr-block-body-braces-cond-elses-ex
       path-expr-below t,
       path-expr.Post,
       f-string-below t,
-      f_string.Post,
+      f-string.Post,
       parens-below t,
       parens.Post,
       braces-below t,
@@ -681,7 +681,7 @@ pub +access-args-arm-assign-expr-atom-binop-expr-block-body-braces-cond-elses-ex
       word-reads.Learnt,
     )
     (f-string-at t)
-    f_string.Post
+    f-string.Post
     f-string-Inv-loop
     f-string-μ-loop
     (f-string-enum-known-step t)

@@ -2,12 +2,11 @@ use Rattle.promises.proofs.Leaves.{arm_comma, arm_block, arm_last}
 use borrow.Author.Rules.{rules}
 use mathlib.Core.Path.{sym, refl, ◌∙◌}
 use mathlib.Core.List.{◌∷◌, []}
-use Rattle.grammar.specs.Words.{words}
+use Rattle.grammar.specs.Words.{comma}
 use Rattle.parser.proofs.Steps.{never_refused, took_done}
 use Rattle.parser.proofs.Standing.{is_word}
 use Rattle.reader.proofs.arm_comma.Statement.{statement}
 use Rattle.reader.proofs.arm_comma.Tie as tie
-open words use {comma}
 
 word-requires : tie.Need-word-requires
 word-requires c κs = search rules

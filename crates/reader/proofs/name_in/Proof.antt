@@ -1,11 +1,10 @@
 use borrow.Author.Rules.{rules}
-use Rattle.grammar.specs.Words.{words}
+use Rattle.grammar.specs.Words.{'in'}
 use Rattle.parser.specs.Places.{expected}
 use Rattle.promises.proofs.Answered.{not_both, done_is}
 use mathlib.Core.Path.{ap, refl, ◌∙◌}
 use Rattle.reader.proofs.name_in.Statement.{statement}
 use Rattle.reader.proofs.name_in.Tie as tie
-open words use {'in'}
 
 identifier-requires : tie.Need-identifier-requires
 identifier-requires c κs = c.before.before.before.requires

@@ -1,25 +1,16 @@
 use mathlib.Core.Path.{refl}
 use native.Mathlib.Omega.{arith}
-use Rattle.canon.specs.Trees.{label}
-use Rattle.setter.specs.Waiting.{row_at}
-use Rattle.setter.proofs.Turns.{needs_at, needs_nothing}
+use Rattle.setter.proofs.Turns.{needs_at}
 use borrow.Author.Rules.{rules}
 use Rattle.setter.proofs.needs.Statement.{statement}
 use Rattle.setter.proofs.needs.Tie as tie
 use Rattle.setter.proofs.needs.Reads as reads
 use Rattle.setter.proofs.needs.Lts as lts
-use Rattle.layouts.proofs.asks_nothing.Reads as asks-nothing-reads
 use Rattle.layouts.proofs.place_of.Reads as place-of-reads
 use Rattle.places.proofs.needs.Reads as needs-reads
 
 returns : tie.Need-returns
 returns c = let t = c.if1.true in (λ e. refl, λ s j kids e h. absurd (omega (arith, e, t)))
-
-asks-nothing-requires : tie.Need-asks-nothing-requires
-asks-nothing-requires c κs = search rules
-
-returns-2 : tie.Need-returns-2
-returns-2 c = (λ e. refl, λ s j kids e h. needs_nothing c.before.before.before.before.args.what (c.before.asks_nothing.ensures c.if2.true) (label s (row_at c.before.before.before.before.args.rows.now j)) kids)
 
 sub_at : tie.Need-overflow-sub-at
 sub_at c = search rules
@@ -66,16 +57,14 @@ shared-slice-read-needs-4 c = search rules
 needs-requires : tie.Need-needs-requires
 needs-requires c κs = search rules
 
-returns-3 : tie.Need-returns-3
-returns-3 c = (λ e. absurd (c.before.before.before.before.before.before.before.before.if1.false e), needs_at c.before.before.before.before.before.before.before.before.before.before.args.rows.now c.before.before.before.before.before.before.before.before.before.before.args.row c.before.before.before.before.before.before.before.before.before.before.args.what c.before.before.before.before.before.place_of.result c.needs.result c.before.before.before.before.before.place_of.ensures c.needs.ensures)
+returns-2 : tie.Need-returns-2
+returns-2 c = (λ e. absurd (c.before.before.before.before.before.before.if1.false e), needs_at c.before.before.before.before.before.before.before.before.args.rows.now c.before.before.before.before.before.before.before.before.args.row c.before.before.before.before.before.before.before.before.args.what c.before.before.before.before.before.place_of.result c.needs.result c.before.before.before.before.before.place_of.ensures c.needs.ensures)
 
 pub needs-spec : {M : Type 1} → statement M
 needs-spec =
     tie.close
     (tie.spec
     returns
-    asks-nothing-requires
-    returns-2
     sub_at
     mul_at
     place-of-requires
@@ -91,4 +80,4 @@ needs-spec =
     mul-needs-4
     shared-slice-read-needs-4
     needs-requires
-    returns-3)
+    returns-2)

@@ -1,57 +1,63 @@
-use mathlib.Core.Path.{refl}
-use native.Mathlib.Omega.{arith}
+use mathlib.Core.Path.{◌≡◌, refl}
+use Prim.Native.Nat.{◌-◌}
+use lib.ListN.{length}
+use lib.Seq.{slice}
 use borrow.Author.Rules.{rules}
-use Rattle.sink.proofs.Feeds.{slice_stop, no_more, same_text}
+use native.Mathlib.Omega.{arith}
+use Rattle.sink.specs.Told.{written, fed}
+use Rattle.sink.proofs.Feeds.{one_more, no_more}
 use Rattle.sink.proofs.put_slice.Statement.{statement}
 use Rattle.sink.proofs.put_slice.Tie as tie
 use Rattle.sink.proofs.put_slice.Reads as reads
 use Rattle.sink.proofs.put_slice.Lts as lts
-use Rattle.sink.proofs.fits.Reads as fits-reads
 use Rattle.sink.proofs.least.Reads as least-reads
-use Rattle.sink.proofs.put_each.Reads as put-each-reads
-use Rattle.sink.proofs.put_fitting.Reads as put-fitting-reads
+use Rattle.sink.proofs.put.Reads as put_reads
 
-least-requires : tie.Need-least-requires
+abbrev invariant-loop : tie.invariant-loop
+invariant-loop text₀ at s start end stop to₀ i₀ text to i = (fed (written text to) (slice i end s) ≡ fed (written text₀ at) (slice start end s)) × (length text ≡ length text₀)
+
+abbrev decreases-loop : tie.decreases-loop
+decreases-loop text₀ at s start end stop to₀ i₀ text to i = stop - i
+
+least-requires : tie.Need-least-requires invariant-loop decreases-loop
 least-requires c κs = search rules
 
-returns : tie.Need-returns
-returns c = no_more _ _ _ c.before.before.before.before.args.start c.before.before.before.before.args.end c.before.before.before.before.args.s.now refl c.before.least.ensures.2 (omega arith)
+loop-holds : tie.Need-loop-init invariant-loop decreases-loop
+loop-holds c = (refl, refl)
 
-sub-fits : tie.Need-overflow-sub-fits
-sub-fits c = search rules
+shared-slice-read-put : tie.Need-shared-slice-read-put invariant-loop decreases-loop
+shared-slice-read-put c = omega arith
 
-fits-requires : tie.Need-fits-requires
-fits-requires c κs = search rules
+put-requires : tie.Need-put-requires invariant-loop decreases-loop
+put-requires c κs = search rules
 
-put-fitting-requires : tie.Need-put-fitting-requires
-put-fitting-requires c κs = let h = c.before.before.fits2.ensures c.before.if2.true in ((omega arith, omega arith), h)
+add-i : tie.Need-overflow-add-i invariant-loop decreases-loop
+add-i c = omega arith
 
-same_length : tie.Need-same-length
-same_length c = search rules
+loop-less : tie.Need-loop-smaller invariant-loop decreases-loop
+loop-less c = omega arith
 
-returns-2 : tie.Need-returns-2
-returns-2 c = same_text _ _ _ _ c.before.before.put-fitting.ensures (slice_stop _ c.before.before.before.before.before.before.before.before.before.before.args.start c.before.before.before.before.before.before.before.before.before.before.args.end c.before.before.before.before.before.before.before.before.before.before.args.s.now (omega arith) c.before.before.before.before.before.before.before.least.ensures.2)
+loop-again : tie.Need-loop-preserved invariant-loop decreases-loop
+loop-again c = let g = one_more _ _ _ c.before.before.before.before.before.before.loop.i c.before.before.before.before.before.before.before.before.before.before.args.end c.before.before.before.before.before.before.before.before.before.before.args.s.now c.before.before.before.before.before.before.loop.invariant.0 c.before.before.put.ensures in (g (omega arith) (omega arith), omega arith)
 
-put-each-requires : tie.Need-put-each-requires
-put-each-requires c κs = search rules
+same_length : tie.Need-same-length invariant-loop decreases-loop
+same_length c = c.before.loop.invariant.1
 
-same-length-2 : tie.Need-same-length-2
-same-length-2 c = search rules
-
-returns-3 : tie.Need-returns-3
-returns-3 c = same_text _ _ _ _ c.before.before.put-each.ensures (slice_stop _ c.before.before.before.before.before.before.before.before.before.before.args.start c.before.before.before.before.before.before.before.before.before.before.args.end c.before.before.before.before.before.before.before.before.before.before.args.s.now (omega arith) c.before.before.before.before.before.before.before.least.ensures.2)
+returns : tie.Need-returns invariant-loop decreases-loop
+returns c = let g = no_more _ _ _ c.before.loop.i c.before.before.before.before.before.args.end c.before.before.before.before.before.args.s.now c.before.loop.invariant.0 c.before.before.least.ensures.2 in g (omega arith)
 
 pub put-slice-spec : {M : Type 1} → statement M
 put-slice-spec =
     tie.close
     (tie.spec
+    invariant-loop
+    decreases-loop
     least-requires
-    returns
-    sub-fits
-    fits-requires
-    put-fitting-requires
+    loop-holds
+    shared-slice-read-put
+    put-requires
+    add-i
+    loop-less
+    loop-again
     same_length
-    returns-2
-    put-each-requires
-    same-length-2
-    returns-3)
+    returns)

@@ -10,7 +10,6 @@ use Rattle.sink.proofs.sign.Reads as reads
 use Rattle.sink.proofs.sign.Lts as lts
 use Rattle.sink.proofs.ends_line.Reads as ends-line-reads
 use Rattle.sink.proofs.is_prefix.Reads as is-prefix-reads
-use Rattle.sink.proofs.open_behind.Reads as open-behind-reads
 use Rattle.sink.proofs.put.Reads as put_reads
 use Rattle.sink.proofs.put_blank.Reads as put-blank-reads
 use Rattle.sink.proofs.put_word.Reads as put-word-reads
@@ -28,9 +27,6 @@ is-prefix-requires c κs = search rules
 row-behind-requires : tie.Need-row-behind-requires
 row-behind-requires c κs = search rules
 
-open-behind-requires : tie.Need-open-behind-requires
-open-behind-requires c κs = search rules
-
 ends-line-requires : tie.Need-ends-line-requires
 ends-line-requires c κs = search rules
 
@@ -41,13 +37,13 @@ same_length : tie.Need-same-length
 same_length c = search rules
 
 returns : tie.Need-returns
-returns c = let a = c.before.before.before.before.before.before.before.before.before.before.before.before.before.before.before.before.before.before.args in told_line _ _ _ _ _ _ _ _ _ _ (sign a.w) c.before.before.before.before.before.before.before.before.before.before.before.before.before.before.before.put-blank.ensures (word_spelled _ _ a.w c.before.before.before.before.before.before.before.before.before.before.before.put_word.ensures) c.before.before.put.ensures (sym c.before.before.before.before.before.ends_line.ensures ∙ c.before.before.before.before.if1.true) (c.before.before.before.before.before.before.before.row_behind.ensures ∙ ap (row_behind a.sink.row) c.before.before.before.before.before.before.before.before.is_prefix.ensures) c.before.before.before.before.before.before.open_behind.ensures
+returns c = let a = c.before.before.before.before.before.before.before.before.before.before.before.before.before.before.before.before.before.args in told_line _ _ _ _ _ _ _ _ _ (sign a.w) c.before.before.before.before.before.before.before.before.before.before.before.before.before.before.put-blank.ensures (word_spelled _ _ a.w c.before.before.before.before.before.before.before.before.before.before.put_word.ensures) c.before.before.put.ensures (sym c.before.before.before.before.before.ends_line.ensures ∙ c.before.before.before.before.if1.true) (c.before.before.before.before.before.before.row_behind.ensures ∙ ap (row_behind a.sink.row) c.before.before.before.before.before.before.before.is_prefix.ensures)
 
 same-length-2 : tie.Need-same-length-2
 same-length-2 c = search rules
 
 returns-2 : tie.Need-returns-2
-returns-2 c = let a = c.before.before.before.before.before.before.before.before.before.before.before.before.before.before.args in told_word _ _ _ _ _ _ _ _ (sign a.w) c.before.before.before.before.before.before.before.before.before.before.before.put-blank.ensures (word_spelled _ _ a.w c.before.before.before.before.before.before.before.put_word.ensures) (sym c.before.ends_line.ensures ∙ c.if1.false) (c.before.before.before.row_behind.ensures ∙ ap (row_behind a.sink.row) c.before.before.before.before.is_prefix.ensures) c.before.before.open_behind.ensures
+returns-2 c = let a = c.before.before.before.before.before.before.before.before.before.before.before.before.before.args in told_word _ _ _ _ _ _ _ (sign a.w) c.before.before.before.before.before.before.before.before.before.before.put-blank.ensures (word_spelled _ _ a.w c.before.before.before.before.before.before.put_word.ensures) (sym c.before.ends_line.ensures ∙ c.if1.false) (c.before.before.row_behind.ensures ∙ ap (row_behind a.sink.row) c.before.before.before.is_prefix.ensures)
 
 pub sign-spec : {M : Type 1} → statement M
 sign-spec =
@@ -57,7 +53,6 @@ sign-spec =
     put-word-requires
     is-prefix-requires
     row-behind-requires
-    open-behind-requires
     ends-line-requires
     put-requires
     same_length

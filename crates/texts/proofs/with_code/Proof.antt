@@ -3,7 +3,7 @@ use native.Mathlib.Omega.{arith}
 use Prim.Native.Nat.{◌+◌}
 use lib.Dec.{eqb}
 use Rattle.numbers.proofs.Choices as choices
-use Rattle.texts.specs.Signs.{signs}
+use Rattle.texts.specs.Signs.{open_brace, close_brace}
 use Rattle.texts.specs.Halves.{with_code}
 use borrow.Author.Rules.{rules}
 use Rattle.texts.proofs.with_code.Statement.{statement}
@@ -11,7 +11,6 @@ use Rattle.texts.proofs.with_code.Tie as tie
 use Rattle.texts.proofs.with_code.Reads as reads
 use Rattle.texts.proofs.with_code.Lts as lts
 use Rattle.strings.proofs.width.Reads as width-reads
-open signs use {open-brace, close-brace}
 
 returns : tie.Need-returns
 unfolding with_code
@@ -29,7 +28,7 @@ add-t6 c = omega (arith, c.before.width.ensures)
 
 returns-3 : tie.Need-returns-3
 unfolding with_code
-returns-3 c = rw (c.before.before.before.before.if1.false, c.before.before.if2.false) (ap (λ n. record { size = c.before.before.before.before.before.before.args.h.size + n; opened = eqb c.before.before.before.before.before.before.args.code open-brace; closed = eqb c.before.before.before.before.before.before.args.code close-brace }) c.before.width.ensures)
+returns-3 c = rw (c.before.before.before.before.if1.false, c.before.before.if2.false) (ap (λ n. record { size = c.before.before.before.before.before.before.args.h.size + n; opened = eqb c.before.before.before.before.before.before.args.code open_brace; closed = eqb c.before.before.before.before.before.before.args.code close_brace }) c.before.width.ensures)
 
 pub with-code-spec : {M : Type 1} → statement M
 with-code-spec = tie.close (tie.spec returns returns-2 width-requires add-t6 returns-3)

@@ -26,14 +26,14 @@ byte-at-requires-2 c κs = search rules
 returns-2 : tie.Need-returns-2
 returns-2 c = colons_second _ _ c.before.before.before.before.before.past.ensures c.before.before.before.before.byte_at.ensures c.before.before.before.if1.false c.before.before.past2.ensures c.before.byte-at2.ensures c.if2.true
 
-add-past-address : tie.Need-overflow-add-past-address
-add-past-address c = omega (arith, inside c.before.before.before.before.before.before.before.args.s.now c.before.before.past2.result c.before.byte-at2.ensures c.if2.false (omega arith))
+add-past-2 : tie.Need-overflow-add-past-2
+add-past-2 c = omega (arith, inside c.before.before.before.before.before.before.before.args.s.now c.before.before.past2.result c.before.byte-at2.ensures c.if2.false (omega arith))
 
-past-address-requires : tie.Need-past-address-requires
-past-address-requires c κs = search rules
+past-requires-3 : tie.Need-past-requires-3
+past-requires-3 c κs = search rules
 
 returns-3 : tie.Need-returns-3
-returns-3 c = colons_fit _ _ c.before.before.before.before.before.before.past.ensures c.before.before.before.before.before.byte_at.ensures c.before.before.before.before.if1.false c.before.before.before.past2.ensures c.before.before.byte-at2.ensures c.before.if2.false c.past-address.ensures
+returns-3 c = colons_fit _ _ c.before.before.before.before.before.before.past.ensures c.before.before.before.before.before.byte_at.ensures c.before.before.before.before.if1.false c.before.before.before.past2.ensures c.before.before.byte-at2.ensures c.before.if2.false c.past3.ensures
 
 pub colons-spec : {M : Type 1} → statement M
 colons-spec =
@@ -46,6 +46,6 @@ colons-spec =
     past-requires-2
     byte-at-requires-2
     returns-2
-    add-past-address
-    past-address-requires
+    add-past-2
+    past-requires-3
     returns-3)

@@ -12,7 +12,7 @@ use Rattle.reader.proofs.atom.Reads as atom
 use Rattle.reader.proofs.+access_args_arm_assign_expr_atom_binop_expr_block_body_braces_cond_elses_expr_f_string_factor_field_four_guard_if_else_let_stmt_match_expr_operand_parens_path_expr_postfix_record_return_expr_stmt_stmts.Lts-atom as atom-lts
 use Rattle.reader.proofs.block.Reads as block
 use Rattle.reader.proofs.braces.Reads as braces
-use Rattle.reader.proofs.f_string.Reads as f_string
+use Rattle.reader.proofs.f_string.Reads as f-string
 use Rattle.reader.proofs.four.Reads as four
 use Rattle.reader.proofs.parens.Reads as parens
 use Rattle.reader.proofs.path_expr.Reads as path-expr
@@ -26,7 +26,7 @@ use Rattle.reader.proofs.+access_args_arm_assign_expr_atom_binop_expr_block_body
 
 module _ (t : ℕ) where
   abbrev told : atom-lts.Claims
-  told = (word-reads.Asked, word-reads.Learnt, is-literal-reads.Asked, is-literal-reads.Learnt, literal-reads.Asked, literal-reads.Learnt, is-path-item-reads.Asked, is-path-item-reads.Learnt, path-expr-below t, path-expr.Post, f-string-below t, f_string.Post, parens-below t, parens.Post, braces-below t, braces.Post, block-below t, block.Post, is-four-reads.Asked, is-four-reads.Learnt, four_below t, four.Post, unusable-reads.Asked, unusable-reads.Learnt)
+  told = (word-reads.Asked, word-reads.Learnt, is-literal-reads.Asked, is-literal-reads.Learnt, literal-reads.Asked, literal-reads.Learnt, is-path-item-reads.Asked, is-path-item-reads.Learnt, path-expr-below t, path-expr.Post, f-string-below t, f-string.Post, parens-below t, parens.Post, braces-below t, braces.Post, block-below t, block.Post, is-four-reads.Asked, is-four-reads.Learnt, four_below t, four.Post, unusable-reads.Asked, unusable-reads.Learnt)
 
   pub atom-word-requires : atom-lts.Need-word-requires told (atom-at t) atom.Post
   atom-word-requires c κs = search rules
@@ -68,7 +68,7 @@ module _ (t : ℕ) where
   atom-same-length-3 c = search rules
 
   pub atom-returns-3 : atom-lts.Need-returns-3 told (atom-at t) atom.Post
-  atom-returns-3 c = atom_read _ _ _ _ _ c.before.before.before.before.before.before.before.before.before.before.before.before.before.before.requires.1.0 (operand_string_on c.before.before.before.before.before.before.before.before.before.before.before.before.before.before.args.records) refl (is_word ((sym c.before.before.before.before.before.word3.ensures ∙ c.before.before.before.before.if3.true))) c.before.before.f_string.ensures
+  atom-returns-3 c = atom_read _ _ _ _ _ c.before.before.before.before.before.before.before.before.before.before.before.before.before.before.requires.1.0 (operand_string_on c.before.before.before.before.before.before.before.before.before.before.before.before.before.before.args.records) refl (is_word ((sym c.before.before.before.before.before.word3.ensures ∙ c.before.before.before.before.if3.true))) c.before.before.f-string.ensures
 
   pub atom-word-requires-4 : atom-lts.Need-word-requires-4 told (atom-at t) atom.Post
   atom-word-requires-4 c κs = search rules

@@ -1,6 +1,6 @@
 use Prim.Native.Nat.{◌+◌, ◌-◌, ℕ}
 use Rattle.grammar.specs.Grammar.{one_of}
-use Rattle.grammar.specs.Words.{names, words}
+use Rattle.grammar.specs.Words.{names, open_brace}
 use Rattle.parser.proofs.Standing.{next_small}
 use Rattle.parser.specs.Places.{next_of}
 use Rattle.parser.specs.declared.Limits.{Limits}
@@ -24,7 +24,6 @@ use Rattle.parser.proofs.open.Reads as open-reads
 use Rattle.reader.proofs.parts.braced.Reads as braced-reads
 use Rattle.words.proofs.is_name.Reads as is-name-reads
 use Rattle.reader.proofs.+access_args_arm_assign_expr_atom_binop_expr_block_body_braces_cond_elses_expr_f_string_factor_field_four_guard_if_else_let_stmt_match_expr_operand_parens_path_expr_postfix_record_return_expr_stmt_stmts.Proof.Measures.{arm-below, expr-below, match-expr-at}
-open words use {open-brace}
 
 abbrev pub match-expr-Inv-loop : match-expr-lts.invariant-loop
 match-expr-Inv-loop s table₀ at start inner here₀ children₀ table here children = Gone s inner children₀ here₀ table₀ children here table
@@ -82,10 +81,10 @@ module _ (t : ℕ) where
   match-expr-is-name-requires c κs = search rules
 
   pub match-expr-arm-requires : match-expr-lts.Need-arm-requires told (match-expr-at t) match-expr.Post match-expr-Inv-loop match-expr-μ-loop
-  match-expr-arm-requires c κs = let y = further c.before.before.before.before.before.before.before.before.before.before.before.before.before.before.before.expr.ensures c.before.before.before.before.before.before.before.before.before.before.before.r.given.1 in let z = opening_past open-brace _ y.stands tt c.before.before.before.before.before.before.before.before.before.«open».ensures c.before.before.before.before.before.before.before.r2.given.1 in (omega (arith, y.next, z.1, place_near (c.before.before.before.before.loop.invariant.stands z.0), c.before.before.before.before.loop.invariant.next, c.before.before.before.before.before.before.before.before.before.before.before.before.before.before.before.before.before.before.before.before.requires.0), (c.before.before.before.before.loop.invariant.stands z.0, ap (λ (l : Limits). l.signs) c.before.before.before.before.before.opened.ensures, (true_so (c.before.before.is_name.ensures ∙ ap (λ w. one_of w names) c.before.before.before.word.ensures) c.before.if1.true)))
+  match-expr-arm-requires c κs = let y = further c.before.before.before.before.before.before.before.before.before.before.before.before.before.before.before.expr.ensures c.before.before.before.before.before.before.before.before.before.before.before.r.given.1 in let z = opening_past open_brace _ y.stands tt c.before.before.before.before.before.before.before.before.before.«open».ensures c.before.before.before.before.before.before.before.r2.given.1 in (omega (arith, y.next, z.1, place_near (c.before.before.before.before.loop.invariant.stands z.0), c.before.before.before.before.loop.invariant.next, c.before.before.before.before.before.before.before.before.before.before.before.before.before.before.before.before.before.before.before.before.requires.0), (c.before.before.before.before.loop.invariant.stands z.0, ap (λ (l : Limits). l.signs) c.before.before.before.before.before.opened.ensures, (true_so (c.before.before.is_name.ensures ∙ ap (λ w. one_of w names) c.before.before.before.word.ensures) c.before.if1.true)))
 
   pub match-expr-add-children : match-expr-lts.Need-overflow-add-children told (match-expr-at t) match-expr.Post match-expr-Inv-loop match-expr-μ-loop
-  match-expr-add-children c = let y = further c.before.before.before.before.before.before.before.before.before.before.before.before.before.before.before.before.before.before.expr.ensures c.before.before.before.before.before.before.before.before.before.before.before.before.before.before.r.given.1 in let z = opening_past open-brace _ y.stands tt c.before.before.before.before.before.before.before.before.before.before.before.before.«open».ensures c.before.before.before.before.before.before.before.before.before.before.r2.given.1 in omega (arith, gone_few c.before.before.before.before.before.before.before.loop.invariant z.0)
+  match-expr-add-children c = let y = further c.before.before.before.before.before.before.before.before.before.before.before.before.before.before.before.before.before.before.expr.ensures c.before.before.before.before.before.before.before.before.before.before.before.before.before.before.r.given.1 in let z = opening_past open_brace _ y.stands tt c.before.before.before.before.before.before.before.before.before.before.before.before.«open».ensures c.before.before.before.before.before.before.before.before.before.before.r2.given.1 in omega (arith, gone_few c.before.before.before.before.before.before.before.loop.invariant z.0)
 
   pub match-expr-enum-known-r-3 : match-expr-lts.Need-enum-known-r-3 told (match-expr-at t) match-expr.Post match-expr-Inv-loop match-expr-μ-loop
   match-expr-enum-known-r-3 c = search rules

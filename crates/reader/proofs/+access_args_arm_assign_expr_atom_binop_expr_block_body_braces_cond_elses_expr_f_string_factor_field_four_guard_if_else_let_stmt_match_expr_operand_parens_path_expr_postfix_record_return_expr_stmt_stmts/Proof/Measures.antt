@@ -28,7 +28,7 @@ use Rattle.reader.proofs.elses.Reads as elses
 use Rattle.reader.proofs.elses.Kinds as elses-kinds
 use Rattle.reader.proofs.expr.Reads as expr
 use Rattle.reader.proofs.expr.Kinds as expr-kinds
-use Rattle.reader.proofs.f_string.Reads as f_string
+use Rattle.reader.proofs.f_string.Reads as f-string
 use Rattle.reader.proofs.f_string.Kinds as f-string-kinds
 use Rattle.reader.proofs.factor.Reads as factor
 use Rattle.reader.proofs.factor.Kinds as factor-kinds
@@ -218,10 +218,10 @@ abbrev pub expr-below : ℕ → In 2 expr-kinds.ps
 expr-below t = and 2 expr-kinds.ps (falls 2 expr-kinds.ps ◌<◌ μ-expr t) expr.Pre
 
 abbrev pub f-string-at : ℕ → In 2 f-string-kinds.ps
-f-string-at t = and 2 f-string-kinds.ps (is 2 f-string-kinds.ps μ-f-string t) f_string.Pre
+f-string-at t = and 2 f-string-kinds.ps (is 2 f-string-kinds.ps μ-f-string t) f-string.Pre
 
 abbrev pub f-string-below : ℕ → In 2 f-string-kinds.ps
-f-string-below t = and 2 f-string-kinds.ps (falls 2 f-string-kinds.ps ◌<◌ μ-f-string t) f_string.Pre
+f-string-below t = and 2 f-string-kinds.ps (falls 2 f-string-kinds.ps ◌<◌ μ-f-string t) f-string.Pre
 
 abbrev pub factor-at : ℕ → In 2 factor-kinds.ps
 factor-at t = and 2 factor-kinds.ps (is 2 factor-kinds.ps μ-factor t) factor.Pre

@@ -1,6 +1,6 @@
 use Prim.Native.Nat.{ℕ}
 use Rattle.grammar.specs.Grammar.{one_of}
-use Rattle.grammar.specs.Kinds.{phrases}
+use Rattle.grammar.specs.Kinds.{AFTER_EXPR, AFTER_FOUR}
 use Rattle.grammar.specs.Words.{four_words}
 use Rattle.promises.proofs.Alternatives.{after_expr_on, after_four_semicolon_on, statement_import_on, statement_let_on}
 use Rattle.promises.proofs.Blocks.{behind_expr, behind_four, beyond, beyond_ended, beyond_with, beyond_without, ends_four, ends_last, ends_with, expr_refused, four_refused, no_statement, whole_statement}
@@ -24,7 +24,6 @@ use Rattle.reader.proofs.parts.ended.Reads as ended-reads
 use Rattle.words.proofs.can_begin_expr.Reads as can-begin-expr-reads
 use Rattle.words.proofs.is_four.Reads as is-four-reads
 use Rattle.reader.proofs.+access_args_arm_assign_expr_atom_binop_expr_block_body_braces_cond_elses_expr_f_string_factor_field_four_guard_if_else_let_stmt_match_expr_operand_parens_path_expr_postfix_record_return_expr_stmt_stmts.Proof.Measures.{expr-below, four_below, let-stmt-below, stmt-at}
-open phrases use {AFTER-EXPR, AFTER-FOUR}
 
 module _ (t : ℕ) where
   abbrev told : stmt-lts.Claims
@@ -103,7 +102,7 @@ module _ (t : ℕ) where
   stmt-same-length-5 c = c.before.before.before.before.before.before.before.before.before.four.auto.1.0
 
   pub stmt-returns-5 : stmt-lts.Need-returns-5 told (stmt-at t) stmt.Post
-  stmt-returns-5 c = (ends_with _ _ _ _ AFTER-FOUR (behind_four _ _ _ _ (subst T (sym c.before.before.before.before.before.before.before.before.before.before.before.if3.true ∙ (c.before.before.before.before.before.before.before.before.before.before.before.before.is_four.ensures ∙ ap (λ w. one_of w four_words) c.before.before.before.before.before.before.before.before.before.before.before.before.before.word3.ensures)) tt) c.before.before.before.before.before.before.before.before.before.four.ensures c.before.before.before.before.before.r.given.1) after_four_semicolon_on refl c.before.before.before.before.before.before.before.before.before.before.before.before.before.before.before.before.before.before.before.before.requires.1.1 (sym c.before.before.before.word4.ensures ∙ c.before.before.if4.false) c.before.take.ensures c.ended4.ensures, beyond_with _ c.before.before.before.before.before.before.before.before.before.four.ensures c.before.before.before.before.before.r.given.1 (sym c.before.before.before.word4.ensures ∙ c.before.before.if4.false) c.before.take.ensures c.ended4.ensures)
+  stmt-returns-5 c = (ends_with _ _ _ _ AFTER_FOUR (behind_four _ _ _ _ (subst T (sym c.before.before.before.before.before.before.before.before.before.before.before.if3.true ∙ (c.before.before.before.before.before.before.before.before.before.before.before.before.is_four.ensures ∙ ap (λ w. one_of w four_words) c.before.before.before.before.before.before.before.before.before.before.before.before.before.word3.ensures)) tt) c.before.before.before.before.before.before.before.before.before.four.ensures c.before.before.before.before.before.r.given.1) after_four_semicolon_on refl c.before.before.before.before.before.before.before.before.before.before.before.before.before.before.before.before.before.before.before.before.requires.1.1 (sym c.before.before.before.word4.ensures ∙ c.before.before.if4.false) c.before.take.ensures c.ended4.ensures, beyond_with _ c.before.before.before.before.before.before.before.before.before.four.ensures c.before.before.before.before.before.r.given.1 (sym c.before.before.before.word4.ensures ∙ c.before.before.if4.false) c.before.take.ensures c.ended4.ensures)
 
   pub stmt-word-requires-5 : stmt-lts.Need-word-requires-5 told (stmt-at t) stmt.Post
   stmt-word-requires-5 c κs = search rules
@@ -157,4 +156,4 @@ module _ (t : ℕ) where
   stmt-same-length-8 c = c.before.before.before.before.before.before.before.before.before.expr.auto.1.0
 
   pub stmt-returns-9 : stmt-lts.Need-returns-9 told (stmt-at t) stmt.Post
-  stmt-returns-9 c = (ends_with _ _ _ _ AFTER-EXPR (behind_expr _ _ _ _ (subst T (sym (not-false _ c.before.before.before.before.before.before.before.before.before.before.before.if5.false) ∙ (c.before.before.before.before.before.before.before.before.before.before.before.before.can-begin-expr.ensures ∙ ap (λ w. one_of w expr_firsts) c.before.before.before.before.before.before.before.before.before.before.before.before.before.word5.ensures)) tt) (λ m. subst T (sym ((c.before.before.before.before.before.before.before.before.before.before.before.before.before.before.before.is_four.ensures ∙ ap (λ w. one_of w four_words) c.before.before.before.before.before.before.before.before.before.before.before.before.before.before.before.before.word3.ensures)) ∙ c.before.before.before.before.before.before.before.before.before.before.before.before.before.before.if3.false) m) c.before.before.before.before.before.before.before.before.before.expr.ensures c.before.before.before.before.before.r2.given.1) after_expr_on refl c.before.before.before.before.before.before.before.before.before.before.before.before.before.before.before.before.before.before.before.before.before.before.before.requires.1.1 (sym c.before.before.before.word6.ensures ∙ c.before.before.if6.false) c.before.take2.ensures c.ended7.ensures, beyond_with _ c.before.before.before.before.before.before.before.before.before.expr.ensures c.before.before.before.before.before.r2.given.1 (sym c.before.before.before.word6.ensures ∙ c.before.before.if6.false) c.before.take2.ensures c.ended7.ensures)
+  stmt-returns-9 c = (ends_with _ _ _ _ AFTER_EXPR (behind_expr _ _ _ _ (subst T (sym (not-false _ c.before.before.before.before.before.before.before.before.before.before.before.if5.false) ∙ (c.before.before.before.before.before.before.before.before.before.before.before.before.can-begin-expr.ensures ∙ ap (λ w. one_of w expr_firsts) c.before.before.before.before.before.before.before.before.before.before.before.before.before.word5.ensures)) tt) (λ m. subst T (sym ((c.before.before.before.before.before.before.before.before.before.before.before.before.before.before.before.is_four.ensures ∙ ap (λ w. one_of w four_words) c.before.before.before.before.before.before.before.before.before.before.before.before.before.before.before.before.word3.ensures)) ∙ c.before.before.before.before.before.before.before.before.before.before.before.before.before.before.if3.false) m) c.before.before.before.before.before.before.before.before.before.expr.ensures c.before.before.before.before.before.r2.given.1) after_expr_on refl c.before.before.before.before.before.before.before.before.before.before.before.before.before.before.before.before.before.before.before.before.before.before.before.requires.1.1 (sym c.before.before.before.word6.ensures ∙ c.before.before.if6.false) c.before.take2.ensures c.ended7.ensures, beyond_with _ c.before.before.before.before.before.before.before.before.before.expr.ensures c.before.before.before.before.before.r2.given.1 (sym c.before.before.before.word6.ensures ∙ c.before.before.if6.false) c.before.take2.ensures c.ended7.ensures)

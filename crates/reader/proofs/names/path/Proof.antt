@@ -1,5 +1,5 @@
 use mathlib.Core.List.{[], ◌∷◌}
-use Rattle.grammar.specs.Words.{words}
+use Rattle.grammar.specs.Words.{dot}
 use Prim.Native.Nat.{◌+◌, ◌-◌}
 use lib.ListN.{length}
 use native.Mathlib.Omega.{arith}
@@ -15,7 +15,6 @@ use mathlib.Core.Path.{sym, ◌∙◌}
 use Rattle.parser.proofs.Steps.{never_refused, took_done}
 use Rattle.reader.proofs.names.path.Statement.{statement}
 use Rattle.reader.proofs.names.path.Tie as tie
-open words use {dot}
 
 abbrev invariant-loop : tie.invariant-loop
 invariant-loop s table₀ at first end₀ here₀ children₀ table end here children = Goes s first.start end₀ children₀ here₀ table₀ end children here table

@@ -1,8 +1,7 @@
 use mathlib.Core.Path.{refl}
 use Rattle.tokens.proofs.Fits.{so, first, second}
 use Rattle.tokens.proofs.Tables.{this, later}
-use Rattle.chars.specs.Texts.{bytes}
-use Rattle.tokens.specs.Words.{name_word, keywords, keyword_of, page, words_of}
+use Rattle.tokens.specs.Words.{name_word, keywords, keyword_of}
 use borrow.Author.Rules.{rules}
 use Rattle.tokens.proofs.keywords.name_word.Statement.{statement}
 use Rattle.tokens.proofs.keywords.name_word.Tie as tie
@@ -41,7 +40,7 @@ keyword-requires : tie.Need-keyword-requires
 keyword-requires c κs = search rules
 
 returns-4 : tie.Need-returns-4
-unfolding name_word keywords keyword_of page words_of bytes
+unfolding name_word keywords keyword_of
 returns-4 c = second _ (so c.before.before.before.before.before.before.before.before.same.ensures c.before.before.before.before.before.before.before.if1.false) (later _ _ _ _ c.before.before.before.before.before.same2.ensures c.before.before.before.before.if2.false (later _ _ _ _ c.before.before.same3.ensures c.before.if3.false c.keyword.ensures))
 
 pub name-word-spec : {M : Type 1} → statement M

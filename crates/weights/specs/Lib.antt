@@ -1,6 +1,0 @@
-pub mod Lacks
-pub mod Needed
-pub mod Weights
-pub mod Lighter
-pub mod Sane
-pub mod Laid
