@@ -1,4 +1,6 @@
 // The values of IPv4 and IPv6 addresses.
+#![tactic(auto)]
+
 ghost use Rattle.std.specs.Prelude.{◌≡◌, ◌+◌, ◌-◌, ◌≤◌, ◌<◌, length, take, drop, replicate};
 ghost use Rattle.addresses.specs.Groups.{separator_of, short_of, group_of, parts, values_of, push_of, push_all, heard, all_zero, only_of};
 ghost use Rattle.addresses.specs.Addresses.{quad_of, gap, side_of, filled, groups_in, front_of, wide_of, whole_of, end_of, half_of, both_of};
@@ -6,33 +8,33 @@ ghost use Rattle.addresses.specs.Addresses.{quad_of, gap, side_of, filled, group
 use numbers::{Base, Number};
 
 // How an address is written: octets between dots, or groups of hex digits between colons.
-#[derive(Drop)]
+#[derive(Clone, Copy)]
 pub enum Form {
     Dotted,
     Hexed,
 }
 
 // A number of 128 bits in its halves.
-#[derive(Drop)]
+#[derive(Clone, Copy)]
 pub struct Wide {
     pub high: u64,
     pub low: u64,
 }
 
 // How many groups were read, and the number that they write.
-#[derive(Drop)]
+#[derive(Clone, Copy)]
 pub enum Groups {
     Are { count: usize, wide: Wide },
     None,
 }
 
-#[derive(Drop)]
+#[derive(Clone, Copy)]
 pub enum Quad {
     Is(u64),
     None,
 }
 
-#[derive(Drop)]
+#[derive(Clone, Copy)]
 pub enum Address {
     Is { high: u64, low: u64 },
     None,

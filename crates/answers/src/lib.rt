@@ -1,1 +1,3 @@
 // The answers of (a) and (b) over the bytes of a source; no code.
+#![tactic(auto)]
+

@@ -1,5 +1,7 @@
 // Answers cases from standard input, one after the other: a line `ENTRY LENGTH` or `ENTRY LENGTH ROOM`, for `n` `n LENGTH POSITION`, for `k`
 // `k LENGTH NUMBER [LIST [ROWS]]`, for `s` `s LENGTH [ROWS [RANGES]]`, then LENGTH bytes.
+#![tactic(auto)]
+
 use decimals::Numeral;
 use libc::{STDIN_FILENO, STDOUT_FILENO};
 
@@ -128,7 +130,7 @@ fn printed(source: &[u8], room: usize, table: &mut [u64]) {
 }
 
 // The numbers behind a case's length: the room, the position or the constant's number; the room of its list or its ranges; that of a constant's rows.
-#[derive(Drop)]
+#[derive(Clone, Copy)]
 struct Line {
     first: u64,
     second: u64,

@@ -1,4 +1,6 @@
 // The bytes of a source, their classes, and how far a run of one class reaches; and what every entry point answers.
+#![tactic(auto)]
+
 ghost use Rattle.std.specs.Prelude.{◌≡◌, true, false, ◌+◌, ◌≤◌, length};
 ghost use Rattle.chars.specs.declared.Class.TheVariants.{Ascii, Line, NamePart};
 ghost use Rattle.chars.specs.Chars.{is_blank, is_digit, is_hex_digit, is_letter, is_class, byte_at};
@@ -16,7 +18,7 @@ const LINE_BLOCK: usize = 16;
 const SOURCE_BLOCK: usize = 32;
 
 // The classes of bytes that runs are made of.
-#[derive(Drop)]
+#[derive(Clone, Copy)]
 pub enum Class {
     Ascii,
     Blank,
@@ -29,7 +31,7 @@ pub enum Class {
 }
 
 // The answer of an entry point: a number, a place and a count.
-#[derive(Drop)]
+#[derive(Clone, Copy)]
 pub struct Answer {
     pub number: u64,
     pub start: usize,

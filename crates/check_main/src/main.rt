@@ -1,12 +1,14 @@
 // Checks sources. Arguments: `text` or `json`, then files, each with a letter before its name: `-` standard input, `f` a file or a pipe, `o`
 // anything else. Writes a report of each refusal, or a line of JSON for each file, and how many there were of each kind.
+#![tactic(auto)]
+
 use chars::{Answer, refusal};
 use libc::{STDERR_FILENO, STDIN_FILENO, STDOUT_FILENO};
 use messages::text;
 use reader::entries;
 
 // How many files were accepted, refused and not read, and whether everything could be written.
-#[derive(Drop)]
+#[derive(Clone, Copy)]
 struct Tally {
     accepted: u64,
     refused: u64,
@@ -15,7 +17,7 @@ struct Tally {
 }
 
 // What became of one file.
-#[derive(Drop)]
+#[derive(Clone, Copy)]
 enum Outcome {
     Accepted,
     Refused,

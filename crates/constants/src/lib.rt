@@ -1,4 +1,6 @@
 // What a constant comes to: its expression is translated into a list of stack instructions, one a row, and the list is run.
+#![tactic(auto)]
+
 ghost use Rattle.std.specs.Prelude.{◌≡◌, false, ◌+◌, ◌-◌, ◌*◌, ◌/◌, ◌≤◌, length};
 ghost use Rattle.rows.specs.Rows.{width};
 ghost use Rattle.machine.specs.Machine.{instrs, wide};
@@ -60,21 +62,21 @@ const GREATEST: [u64; 9] = [
 ];
 
 // A constant that was worked out: its value, its declared type and how many instructions gave it; or a refusal.
-#[derive(Drop)]
+#[derive(Clone, Copy)]
 pub enum Constant {
     Is(Value, u64, usize),
     Refused(Answer),
 }
 
 // The row of a constant, if there is one of that number.
-#[derive(Drop)]
+#[derive(Clone, Copy)]
 pub enum Found {
     At(usize),
     None,
 }
 
 // A refusal of a row, 0 for none.
-#[derive(Drop)]
+#[derive(Clone, Copy)]
 pub struct Fault {
     pub number: u64,
     pub start: u64,

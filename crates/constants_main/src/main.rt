@@ -1,4 +1,6 @@
 // Prints each constant of a source on standard input: its name, its type, and its value or its refusal with line and column; or the source's refusal.
+#![tactic(auto)]
+
 use libc::STDIN_FILENO;
 
 // Zeros for the instructions of the longest constant.

@@ -1,4 +1,6 @@
 // Decimals in what the programs are given. Promises nothing but to be safe and to end.
+#![tactic(auto)]
+
 ghost use Rattle.std.specs.Prelude.{◌≡◌, ◌<◌, length};
 
 use libc::STDIN_FILENO;
@@ -47,7 +49,7 @@ fn longer(value: u64, digit: u64) -> u64
 }
 
 // A number and the byte behind it.
-#[derive(Drop)]
+#[derive(Clone, Copy)]
 pub struct Numeral {
     pub value: u64,
     pub behind: u8,

@@ -1,4 +1,6 @@
 // What entry points (a) and (b) answer to what was read, and entry point (d).
+#![tactic(auto)]
+
 ghost use Rattle.std.specs.Prelude.{◌≡◌, ◌+◌, length};
 ghost use Rattle.tokens.specs.Tokens.{refusal, counted as countedOf};
 ghost use Rattle.rows.specs.Rows.{zeroed};

@@ -1,4 +1,6 @@
 // Prints the rows of the one expression on standard input, or its refusal; with the argument `names` as a tree with names.
+#![tactic(auto)]
+
 use libc::STDIN_FILENO;
 
 fn main() {

@@ -1,4 +1,6 @@
 // The float nearest to a fraction of two whole numbers, a tie to the even one: the bits of an f32 or of an f64.
+#![tactic(auto)]
+
 ghost use Rattle.std.specs.Prelude.{◌≡◌, ℕ, ◌+◌, ◌-◌, ◌*◌, ◌^◌, ◌≤◌, ◌<◌};
 ghost use Rattle.std.specs.Float.Ieee.Nearest.{closest};
 ghost use Rattle.floats.specs.Bits.{bits_of, decimal_of};
@@ -10,7 +12,7 @@ pub const NINETEEN_NINES: u64 = 9999999999999999999;
 
 pub const MOST_PLACES: usize = 19;
 
-#[derive(Drop)]
+#[derive(Clone, Copy)]
 pub enum Width {
     F32,
     F64,
@@ -46,7 +48,7 @@ fn last(w: Width) -> u64
     }
 }
 
-#[derive(Drop)]
+#[derive(Clone, Copy)]
 struct Division {
     quotient: u64,
     rest: u64,
@@ -74,7 +76,7 @@ fn extend(q: u64, r: u64, d: u64, steps: u32) -> Division
     Division { quotient, rest }
 }
 
-#[derive(Drop)]
+#[derive(Clone, Copy)]
 struct Binary {
     quotient: u64,
     rest: u64,
@@ -148,7 +150,7 @@ fn nearest(n: u64, d: u64, w: Width) -> u64
 }
 
 // The bits of a decimal, or that it has too many digits.
-#[derive(Drop)]
+#[derive(Clone, Copy)]
 pub enum Answer {
     Bits(u64),
     Long,

@@ -1,4 +1,6 @@
 // Prints the source on standard input in its one way (C-20); a refusal goes to standard error in words. The argument is the source's name.
+#![tactic(auto)]
+
 use chars::{Answer, refusal};
 use libc::{STDERR_FILENO, STDIN_FILENO, STDOUT_FILENO};
 use messages::text;

@@ -1,1 +1,3 @@
 // The grammar's definitions and theorems; no code.
+#![tactic(auto)]
+

@@ -1,1 +1,3 @@
 // What stays read when bytes of a source are replaced by spaces; no code.
+#![tactic(auto)]
+

@@ -1,4 +1,6 @@
 // How each kind of row is written, child by child: the words before a child, its place, and the words behind the last. A phase says how far it is.
+#![tactic(auto)]
+
 ghost use Rattle.std.specs.Prelude.{◌≡◌, [], ◌∷◌, ◌++◌, false, cond, ◌&&◌, not, ℕ, ◌<◌, ◌+◌, pred, eqb};
 ghost use Rattle.rows.specs.Kinds as kinds;
 ghost use Rattle.grammar.specs.Words.{comma, binary_signs, assign_signs, return_words, filter_words};

@@ -1,4 +1,6 @@
 // The functions that C and Rust link: each answers in a lent run of numbers, as far as that reaches.
+#![tactic(auto)]
+
 ghost use Rattle.std.specs.Prelude.{◌≡◌, true, false, set, length};
 ghost use Rattle.std.proofs.lemmas.List.Edits.{sets};
 ghost use Rattle.tokens.specs.declared.Refusal.{Refusal};

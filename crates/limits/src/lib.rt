@@ -1,1 +1,3 @@
 // Which prints pass no limit; no code.
+#![tactic(auto)]
+

@@ -1,5 +1,7 @@
 // Entry point (c): a source's tokens, written to a lent run of token structs. A source that is accepted is scanned once.
 // `tokens` alone has that run, and only stores; what scans is covered.
+#![tactic(auto)]
+
 ghost use Rattle.std.specs.Prelude.{◌≡◌, ◌<◌, length};
 ghost use Rattle.tokens.specs.Tokens.{step_at, answer_of};
 ghost use Rattle.list.specs.Filled.{zero_token, filled};
@@ -9,7 +11,7 @@ use chars::{Answer, refusal};
 use tokens::{Cursor, Step, Token, Whole};
 
 // Where the writer stands: its place in the list, and whether tokens are read, from the cursor on, or zero tokens are left to store.
-#[derive(Drop)]
+#[derive(Clone, Copy)]
 pub struct State {
     pub reading: bool,
     pub cursor: Cursor,
@@ -17,7 +19,7 @@ pub struct State {
     pub answer: Answer,
 }
 
-#[derive(Drop)]
+#[derive(Clone, Copy)]
 pub struct Stored {
     pub token: Token,
     pub state: State,

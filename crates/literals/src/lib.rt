@@ -1,4 +1,6 @@
 // What number one float literal is: the bits of the float nearest to the decimal that its bytes write.
+#![tactic(auto)]
+
 ghost use Rattle.std.specs.Prelude.{◌≡◌, true, ◌≤◌, length};
 ghost use Rattle.std.proofs.Math.Seq.{slice};
 ghost use Rattle.chars.specs.Chars.{byte_at, is_digit};
@@ -22,14 +24,14 @@ const F32: u64 = 9;
 const PERIOD: u16 = 46;
 
 // A float literal of a width, or something else.
-#[derive(Drop)]
+#[derive(Clone, Copy)]
 pub enum Alone {
     Float(Width),
     None,
 }
 
 // Number, place, width in bits, bits; width and bits are 0 for a refusal.
-#[derive(Drop)]
+#[derive(Clone, Copy)]
 pub struct Answer {
     pub number: u64,
     pub start: usize,

@@ -1,4 +1,6 @@
 // The constant's stack machine. An instruction is five numbers: kind, type, value, start, end, as its row has them; a binary one has its operator for a value.
+#![tactic(auto)]
+
 ghost use Rattle.std.specs.Prelude.{◌≡◌, ◌<◌, length};
 ghost use Rattle.std.specs.Float.Ieee as Ieee;
 ghost use Rattle.std.specs.Float.{binary64};
@@ -36,7 +38,7 @@ const SIGN: u64 = 9223372036854775808;
 // What is shown for a NaN, whose bits the language leaves open.
 pub const NAN: u64 = 9221120237041090560;
 
-#[derive(Drop)]
+#[derive(Clone, Copy)]
 pub enum Value {
     Whole(u64),
     Float(f64),
@@ -44,13 +46,13 @@ pub enum Value {
 }
 
 // What an operator of two operands gives: a value, or that the divisor is zero.
-#[derive(Drop)]
+#[derive(Clone, Copy)]
 pub enum Step {
     To(Value),
     Zero,
 }
 
-#[derive(Drop)]
+#[derive(Clone, Copy)]
 pub enum Ran {
     Done(Value),
     // A zero divisor, at the row of this start and end.
@@ -59,13 +61,13 @@ pub enum Ran {
     Broken,
 }
 
-#[derive(Drop)]
+#[derive(Clone, Copy)]
 pub enum Logic {
     Or,
     And,
 }
 
-#[derive(Drop)]
+#[derive(Clone, Copy)]
 pub enum Order {
     Equal,
     Unequal,
@@ -75,7 +77,7 @@ pub enum Order {
     AtLeast,
 }
 
-#[derive(Drop)]
+#[derive(Clone, Copy)]
 pub enum Sum {
     Plus,
     Minus,
@@ -85,7 +87,7 @@ pub enum Sum {
 }
 
 // The thirteen operators.
-#[derive(Drop)]
+#[derive(Clone, Copy)]
 pub enum Op {
     Joins(Logic),
     Compares(Order),
@@ -93,7 +95,7 @@ pub enum Op {
     Other,
 }
 
-#[derive(Drop)]
+#[derive(Clone, Copy)]
 pub enum Named {
     Of(Integer),
     Other,

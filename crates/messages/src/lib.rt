@@ -1,4 +1,6 @@
 // Refusals of (a) in words, as text and as JSON, put into a lent buffer. Promises nothing but to be safe and to end.
+#![tactic(auto)]
+
 use chars::{Answer, refusal};
 use text::Form;
 use words::Items;

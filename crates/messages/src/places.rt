@@ -12,7 +12,7 @@ const NEWLINE: u16 = 10;
 const RETURN: u16 = 13;
 
 // A line and a column in it, in bytes from 1, and where the line begins.
-#[derive(Drop)]
+#[derive(Clone, Copy)]
 pub struct Spot {
     pub line: usize,
     pub column: usize,
@@ -46,7 +46,7 @@ pub fn spot_of(s: &[u8], at: usize) -> Spot {
 }
 
 // A part of a source, from one place to another.
-#[derive(Drop)]
+#[derive(Clone, Copy)]
 struct View {
     from: usize,
     to: usize,

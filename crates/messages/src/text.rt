@@ -1,7 +1,7 @@
 // Bytes put one behind the other into a lent buffer, as far as it reaches; each function says how many there are then.
 
 // How a byte of a text is put.
-#[derive(Drop)]
+#[derive(Clone, Copy)]
 pub enum Form {
     // As it is.
     Raw,

@@ -1,7 +1,7 @@
 // Whether a text is UTF-8, so that it may stand in JSON as it is.
 
 // How many bytes of a character are to come, and between which two the next has to be.
-#[derive(Drop)]
+#[derive(Clone, Copy)]
 struct Wanted {
     more: u8,
     low: u8,

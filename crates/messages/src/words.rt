@@ -107,7 +107,7 @@ fn try_one(
 }
 
 // Where a list of items ends, and how many it has.
-#[derive(Drop)]
+#[derive(Clone, Copy)]
 pub struct Items {
     pub end: usize,
     pub count: usize,

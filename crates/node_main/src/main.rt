@@ -1,4 +1,6 @@
 // Prints the leaf that holds a byte, its row and its text, or a refusal. Standard input is the byte's position, a newline and the source.
+#![tactic(auto)]
+
 use libc::STDIN_FILENO;
 
 fn main() {

@@ -1,4 +1,6 @@
 // Which node is under the cursor: the last leaf in table order whose span holds a byte, found from the last row on by the sizes of subtrees.
+#![tactic(auto)]
+
 ghost use Rattle.std.specs.Prelude.{◌≡◌, ◌<◌};
 ghost use Rattle.rows.specs.Rows.{room};
 ghost use Rattle.nodes.specs.Nodes.{node_at, holds, is_leaf, wrong_size};
@@ -23,7 +25,7 @@ const CHILDREN: usize = 3;
 const SIZE: usize = 6;
 
 // What the search looks at of a row.
-#[derive(Drop)]
+#[derive(Clone, Copy)]
 pub struct Node {
     pub start: u64,
     pub end: u64,

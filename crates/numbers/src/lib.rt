@@ -1,4 +1,6 @@
 // The numbers that digits write, and what integers, floats, hex numbers and AS numbers say.
+#![tactic(auto)]
+
 ghost use Rattle.std.specs.Prelude.{◌≡◌, ◌<◌};
 ghost use Rattle.numbers.specs.Digits.{digit_of, radix_of, add_of, number_of, plain};
 ghost use Rattle.numbers.specs.Texts.{until_byte};
@@ -24,28 +26,28 @@ const CEILINGS: [u64; 9] = [
     18446744073709551615,
 ];
 
-#[derive(Drop)]
+#[derive(Clone, Copy)]
 pub enum Base {
     Ten,
     Sixteen,
 }
 
 // A number and how many digits write it.
-#[derive(Drop)]
+#[derive(Clone, Copy)]
 pub enum Number {
     Is { value: u64, digits: usize },
     None,
 }
 
 // What an integer or a float says. A suffix is 0 for none, 1 to 4 for i8 to i64, 5 to 8 for u8 to u64, 9 for f32, 10 for f64.
-#[derive(Drop)]
+#[derive(Clone, Copy)]
 pub enum Amount {
     Integer { value: u64, suffix: u64 },
     Float(u64),
     None,
 }
 
-#[derive(Drop)]
+#[derive(Clone, Copy)]
 pub enum Sum {
     Is(u64),
     None,

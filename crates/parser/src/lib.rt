@@ -1,4 +1,6 @@
 // What every reader stands on: the token that it stands at, the limits, how it goes past a token, writes a row, refuses.
+#![tactic(auto)]
+
 ghost use Rattle.std.specs.Prelude.{◌≡◌, ◌≤◌, length};
 ghost use Rattle.rows.specs.Rows.{put_row};
 ghost use Rattle.std.proofs.Math.Seq.{slice};
@@ -18,7 +20,7 @@ use tokens::{Cursor, Refusal, Step, word};
 const MANY_ROWS: usize = 300000;
 
 // Where a reader stands: the lexer's step from a place on, that place, and the rows written so far.
-#[derive(Drop)]
+#[derive(Clone, Copy)]
 pub struct Here {
     pub step: Step,
     pub place: usize,
@@ -85,7 +87,7 @@ fn word_of_refused(number: u64) -> u64
 }
 
 // How many brackets, prefixes in a row, `else if` of a chain and heads may still be opened.
-#[derive(Drop)]
+#[derive(Clone, Copy)]
 pub struct Limits {
     pub brackets: u8,
     pub signs: u8,
@@ -94,7 +96,7 @@ pub struct Limits {
 }
 
 // A phrase's row, or 0 and the span of a token or list; a list's items.
-#[derive(Drop)]
+#[derive(Clone, Copy)]
 pub struct Node {
     pub kind: u64,
     pub start: usize,
@@ -102,14 +104,14 @@ pub struct Node {
     pub children: u64,
 }
 
-#[derive(Drop)]
+#[derive(Clone, Copy)]
 pub enum Read {
     Done(Node, Here),
     Refused(Refusal),
 }
 
 // A statement, by how it ended: with its `;`; one of the four without; another expr without, which is the last.
-#[derive(Drop)]
+#[derive(Clone, Copy)]
 pub enum Stmt {
     Ended(Here),
     Four(Here),
@@ -118,7 +120,7 @@ pub enum Stmt {
 }
 
 // An arm, by whether another may follow.
-#[derive(Drop)]
+#[derive(Clone, Copy)]
 pub enum Arm {
     Followed(Here),
     Last(Here),

@@ -1,4 +1,6 @@
 // What the place of a row asks of it, and whether the row is put in parentheses there.
+#![tactic(auto)]
+
 ghost use Rattle.std.specs.Prelude.{◌≡◌, ◌&&◌, ◌||◌, ℕ, eqb};
 ghost use Rattle.grammar.specs.Grammar.{one_of};
 ghost use Rattle.canon.specs.Trees.{Forest, copied};
@@ -11,7 +13,7 @@ use rows::kind;
 pub mod under;
 
 // What a place asks: a level at least; whether a record may stand; whether a path may; with which words nothing may begin there; whether an arm follows.
-#[derive(Drop)]
+#[derive(Clone, Copy)]
 pub struct Place {
     pub level: u64,
     pub records: bool,

@@ -134,7 +134,7 @@ fn name_and_type(s: &[u8], table: &[u64], row: usize) {
 const MOST_BYTES: usize = 65536;
 
 // A line and a column in it, from 1.
-#[derive(Drop)]
+#[derive(Clone, Copy)]
 struct Spot {
     line: u64,
     column: u64,
@@ -252,7 +252,7 @@ fn value_text(ty: u64, v: Value) {
 }
 
 // How a constant was answered.
-#[derive(Drop)]
+#[derive(Clone, Copy)]
 enum Next {
     Accepted,
     Refused,

@@ -1,4 +1,6 @@
 // Answers as lines of text on standard output, in document 01's form.
+#![tactic(auto)]
+
 ghost use Rattle.std.specs.Prelude.{◌+◌, ◌≤◌, length};
 ghost use Rattle.rows.specs.Rows.{width};
 ghost use Rattle.salvage.specs.Answers.{range_width};

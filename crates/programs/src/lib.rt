@@ -1,4 +1,5 @@
 // What the programs behind the commands share: how they are asked, the room that they have, and how they end. Promises nothing but to be safe and to end.
+#![tactic(auto)]
 
 // What a command ends with.
 pub const ACCEPTED: u8 = b'0';

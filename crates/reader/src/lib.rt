@@ -1,5 +1,7 @@
 // Document 01's parser: from tokens to rows. It follows expr.rs and mod.rs, rule by rule, and is predictive: the word that a
 // reader stands at says which rule it follows, or that none fits. Expressions and blocks, which hold each other, are here.
+#![tactic(auto)]
+
 ghost use Rattle.std.specs.Prelude.{◌≡◌, true, false, ◌≢◌, ◌+◌, ◌≤◌, ◌<◌, T};
 ghost use Rattle.grammar.specs.Words.{names, path_items, literals, return_words, f_quote, '!', '-', dot, open_paren, close_paren, 'let', 'if'};
 ghost use Rattle.grammar.specs.Grammar.{one_of};

@@ -1,1 +1,3 @@
 // A print, read again, is the same tree; no code.
+#![tactic(auto)]
+

@@ -1,4 +1,5 @@
 // The lent table of rows: seven numbers a row.
+#![tactic(auto)]
 
 ghost use Rattle.std.specs.Prelude.{◌≡◌, ◌<◌, length};
 ghost use Rattle.rows.specs.Rows.{same_at, lowered, put_row, zeroed};
@@ -9,7 +10,7 @@ pub mod kind;
 pub const WIDTH: usize = 7;
 
 // A row but for its size.
-#[derive(Drop)]
+#[derive(Clone, Copy)]
 pub struct Row {
     pub kind: u64,
     pub start: usize,

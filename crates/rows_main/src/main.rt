@@ -1,4 +1,6 @@
 // Prints the rows of the tree of the source on standard input, or its refusal; with the argument `names` as a tree with names.
+#![tactic(auto)]
+
 use libc::STDIN_FILENO;
 
 fn main() {

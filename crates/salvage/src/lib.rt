@@ -1,4 +1,6 @@
 // C-23, salvage a broken file: what is refused is dropped, up to the next line that begins as a declaration does, and the rest is read.
+#![tactic(auto)]
+
 ghost use Rattle.std.specs.Prelude.{◌≡◌, false, cond, ◌+◌, ◌*◌, ◌/◌, ◌≤◌, ◌<◌, ltb, length};
 ghost use Rattle.rows.specs.Rows.{width};
 ghost use Rattle.tokens.specs.Words.{name_word};
@@ -29,7 +31,7 @@ const UNDERSCORE: u16 = 95;
 const SPACE: u8 = 32;
 
 // The answer: number, place, how many rows, and how many ranges.
-#[derive(Drop)]
+#[derive(Clone, Copy)]
 pub struct Salvaged {
     pub number: u64,
     pub start: usize,
@@ -158,7 +160,7 @@ fn afresh(here: Here) -> Here
 }
 
 // Declarations stand up to the end; or up to what is none, which starts at a byte, with the refusal that is met in it.
-#[derive(Drop)]
+#[derive(Clone, Copy)]
 pub enum Break {
     End,
     At(usize, Refusal),
@@ -184,7 +186,7 @@ fn broken_by(here: Here, read: Read) -> Break
 }
 
 // How many rows and declarations are kept, and how the declarations end.
-#[derive(Drop)]
+#[derive(Clone, Copy)]
 struct Reached {
     rows: usize,
     children: u64,
@@ -227,7 +229,7 @@ fn read_on(s: &[u8], table: &mut [u64], at: usize, before: usize, others: u64) -
 }
 
 // How many rows and declarations are kept, and how many ranges are dropped.
-#[derive(Drop)]
+#[derive(Clone, Copy)]
 struct Totals {
     rows: usize,
     children: u64,

@@ -1,5 +1,7 @@
 // Salvages the source on standard input: writes what is left of it, and to standard error a report of each range that was dropped. The argument is
 // the source's name.
+#![tactic(auto)]
+
 use chars::{Answer, refusal};
 use libc::{STDERR_FILENO, STDIN_FILENO, STDOUT_FILENO};
 use messages::text::Form;

@@ -10,7 +10,7 @@ use rows::{WIDTH, kind};
 use sink::Sink;
 
 // The answer: number, place, how many bytes the print has, and how many rows are tests.
-#[derive(Drop)]
+#[derive(Clone, Copy)]
 pub struct Printed {
     pub number: u64,
     pub start: usize,

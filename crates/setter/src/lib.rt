@@ -1,4 +1,6 @@
 // One way of writing a filter: the print of a source's tree.
+#![tactic(auto)]
+
 ghost use Rattle.std.specs.Prelude.{◌≡◌, true, false, cond, List, ℕ, suc, ◌+◌, ◌*◌, ◌-◌, ◌≤◌, ◌<◌, eqb, length, get_or, set};
 ghost use Rattle.std.proofs.Math.Seq.{slice};
 ghost use Rattle.rows.specs.Kinds as kinds;
@@ -170,7 +172,7 @@ fn needs(rows: &[u64], row: usize, what: u64) -> bool
 }
 
 // How far the print and the stack are.
-#[derive(Drop)]
+#[derive(Clone, Copy)]
 struct Turn {
     sink: Sink,
     top: usize,

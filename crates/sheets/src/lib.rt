@@ -1,4 +1,6 @@
 // Tables from other tools: a file of a source, its rows and the rows of its declarations by index; checked, and written.
+#![tactic(auto)]
+
 ghost use Rattle.std.specs.Prelude.{◌≡◌, List, ◌++◌, true, false, ◌&&◌, ◌⊎◌, ℕ, ◌+◌, ◌*◌, ◌≤◌, ◌<◌, ltb, eqb, length, take, drop};
 ghost use Rattle.std.proofs.lemmas.List.Edits.{sets};
 ghost use Rattle.rows.specs.Kinds.{TEST};
@@ -35,14 +37,14 @@ const CHILDREN: usize = 3;
 const SIZE: usize = 6;
 
 // The counts of a file's sections: bytes of the source, rows, indexes.
-#[derive(Drop)]
+#[derive(Clone, Copy)]
 pub enum Parts {
     Filled(usize, usize, usize),
     Unfilled,
 }
 
 // The answer to a file: number, place, how many rows, and how many of them are tests.
-#[derive(Drop)]
+#[derive(Clone, Copy)]
 pub struct Checked {
     pub number: u64,
     pub start: usize,

@@ -1,4 +1,6 @@
 // The text of a print, token by token, in a buffer.
+#![tactic(auto)]
+
 ghost use Rattle.std.specs.Prelude.{◌≡◌, ◌++◌, ◌⊎◌, ◌≤◌};
 ghost use Rattle.std.proofs.Math.Seq.{slice};
 ghost use Rattle.tokens.specs.Words.{two_signs, one_signs, keywords};
@@ -12,7 +14,7 @@ use tokens::word;
 
 // How many bytes were written, as far as they count; whether a blank comes before the next token; how many prefix words stand in a row, and one more than may
 // once there were too many.
-#[derive(Drop)]
+#[derive(Clone, Copy)]
 pub struct Sink {
     pub at: usize,
     pub gap: bool,

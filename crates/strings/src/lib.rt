@@ -1,4 +1,6 @@
 // The values of strings and chars, and a string decoded to bytes.
+#![tactic(auto)]
+
 ghost use Rattle.std.specs.Prelude.{◌≡◌, ◌+◌, ◌≤◌, length, replicate};
 ghost use Rattle.std.proofs.lemmas.List.Edits.{sets};
 ghost use Rattle.strings.specs.Escapes.{is_bare, simple_of, is_scalar, ascii_of, unicode_of, escape_of, piece_of};
@@ -9,20 +11,20 @@ use chars::{Answer, MOST_BYTES, refusal};
 use numbers::{Base, Number};
 
 // One character as it is written: its code point, and how many bytes write it.
-#[derive(Drop)]
+#[derive(Clone, Copy)]
 pub enum Piece {
     Is { code: u64, size: usize },
     None,
 }
 
 // How many bytes a string decodes to.
-#[derive(Drop)]
+#[derive(Clone, Copy)]
 pub enum Size {
     Is(usize),
     None,
 }
 
-#[derive(Drop)]
+#[derive(Clone, Copy)]
 pub enum Point {
     Is(u64),
     None,

@@ -1,4 +1,6 @@
 // Checks a file of a source and its rows, or writes one. Standard input is `t`, a newline and the file, or `w`, a newline and the source.
+#![tactic(auto)]
+
 use libc::STDIN_FILENO;
 
 // Bytes of the longest file that is read or written here: that of an ordinary filter of 50 KiB.

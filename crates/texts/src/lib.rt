@@ -1,4 +1,6 @@
 // The text of an f-string (C-11): where a piece of it ends, and how many bytes it has in the end.
+#![tactic(auto)]
+
 ghost use Rattle.std.specs.Prelude.{◌≡◌, ◌+◌, ◌-◌, ◌≤◌};
 ghost use Rattle.strings.specs.Utf8.{width_of};
 ghost use Rattle.texts.specs.declared.Mode.TheVariants.{Text, Escape, Letter, Code, Brace};
@@ -10,7 +12,7 @@ ghost use Rattle.texts.specs.Texts.{text_of};
 use strings::{Piece, Size};
 
 // How an f-string's text stands where it is scanned, and what ended it.
-#[derive(Drop)]
+#[derive(Clone, Copy)]
 pub enum Mode {
     Text,
     Escape,
@@ -23,7 +25,7 @@ pub enum Mode {
 }
 
 // The end of a piece of text: before the `{` of a hole, or before the closing quote.
-#[derive(Drop)]
+#[derive(Clone, Copy)]
 pub enum Part {
     Before(usize),
     Ends(usize),
@@ -31,7 +33,7 @@ pub enum Part {
 }
 
 // How many bytes a text has so far, and whether its last one is a `{`, or a `}`, that has no second yet.
-#[derive(Drop)]
+#[derive(Clone, Copy)]
 pub struct Halves {
     pub size: usize,
     pub opened: bool,

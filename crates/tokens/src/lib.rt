@@ -1,4 +1,6 @@
 // Document 01's lexer: from bytes to tokens. It follows lexer.rs, function by function.
+#![tactic(auto)]
+
 ghost use Rattle.std.specs.Prelude.{◌≡◌, true, false, cond, ◌+◌, ◌≤◌, ◌<◌, length, eqb};
 ghost use Rattle.chars.specs.Chars.{is_blank, byte_at};
 ghost use Rattle.chars.specs.Runs.{past_span};
@@ -17,20 +19,20 @@ pub mod word;
 const TEXT_BLOCK: usize = 16;
 
 // A place in a source. A step hands back the next.
-#[derive(Drop)]
+#[derive(Clone, Copy)]
 pub struct Cursor {
     pub at: usize,
 }
 
 #[repr(C)]
-#[derive(Drop)]
+#[derive(Clone, Copy)]
 pub struct Token {
     pub code: u64,
     pub start: usize,
     pub end: usize,
 }
 
-#[derive(Drop)]
+#[derive(Clone, Copy)]
 pub struct Refusal {
     pub number: u64,
     pub start: usize,
@@ -38,21 +40,21 @@ pub struct Refusal {
 }
 
 // A token, its word and where it starts, with the next cursor, where it ends; or a refusal: 4, 5, and 11 at the end.
-#[derive(Drop)]
+#[derive(Clone, Copy)]
 pub enum Step {
     Taken(u64, usize, Cursor),
     Refused(Refusal),
 }
 
 // How far a rule reaches, and the word it has found there.
-#[derive(Drop)]
+#[derive(Clone, Copy)]
 pub enum Fit {
     To(usize, u64),
     No,
 }
 
 // What is said of a source before it is read.
-#[derive(Drop)]
+#[derive(Clone, Copy)]
 pub enum Whole {
     Fine,
     Refused(Refusal),

@@ -1,4 +1,6 @@
 // Prints the token list of the source on standard input, or its refusal; with the argument `names` by names and with texts.
+#![tactic(auto)]
+
 use libc::STDIN_FILENO;
 
 fn main() {

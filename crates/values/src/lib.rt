@@ -1,4 +1,6 @@
 // The value of a literal token, by the token's code.
+#![tactic(auto)]
+
 ghost use Rattle.std.specs.Prelude.{◌≡◌};
 ghost use Rattle.values.specs.Literals.{from_amount, from_number, from_quad, from_address, from_size, from_point, bool_of, literal_of, literal_at, literal_numbers};
 
@@ -8,7 +10,7 @@ use rows::kind;
 use strings::{Point, Size};
 
 // A literal's row: its kind, its value and its detail.
-#[derive(Drop)]
+#[derive(Clone, Copy)]
 pub enum Literal {
     Is { kind: u64, value: u64, detail: u64 },
     None,

@@ -1,9 +1,11 @@
 // Whole numbers of the eight types, each held as its lowest bits.
+#![tactic(auto)]
+
 ghost use Rattle.std.specs.Prelude.{◌≡◌, ◌+◌, ◌*◌, ◌%◌, ◌^◌, not, ◌+ℤ◌, ◌-ℤ◌, ◌*ℤ◌, neg_ℤ, unsigned_abs};
 ghost use Rattle.std.specs.Int.Signed.{lt_z, non_neg};
 ghost use Rattle.wholes.specs.Wholes.{bits_of, span, lowest, number, quotient_of, remainder_of};
 
-#[derive(Drop)]
+#[derive(Clone, Copy)]
 pub enum Integer {
     I8,
     I16,
@@ -16,7 +18,7 @@ pub enum Integer {
 }
 
 // A quotient or a remainder; none where the divisor is zero.
-#[derive(Drop)]
+#[derive(Clone, Copy)]
 pub enum Part {
     Of(u64),
     None,

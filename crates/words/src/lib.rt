@@ -1,4 +1,6 @@
 // The words by which the reader chooses, and what they give: document 01's lists of words as tests.
+#![tactic(auto)]
+
 ghost use Rattle.std.specs.Prelude.{◌≡◌};
 ghost use Rattle.rows.specs.Kinds as kinds;
 ghost use Rattle.grammar.specs.Words.{names, path_items, literals, four_words, assign_signs, compare_signs, sum_signs, product_signs};
