@@ -113,11 +113,11 @@ module _ (s : List ℕ) where
     upto_here : {ts : List Token} → here ts → Upto z here z ts
     upto_there : {x : Token} {i j : ℕ} {ts : List Token} → (source s).look i ≡ found x j → Upto z here j ts → Upto z here i (x ∷ ts)
 
-  upto_before : {i z : ℕ} {ts : List Token} → Before (source s) z i ts → Upto z (λ us. Unit {0}) i ts
+  upto_before : {z i : ℕ} {ts : List Token} → Before (source s) z i ts → Upto z (λ us. Unit {0}) i ts
   upto_before before_here = upto_here tt
   upto_before (before_there e b) = upto_there e (upto_before b)
 
-  upto_with : {i z : ℕ} {ts : List Token} → With (source s) z i ts → Upto z (With (source s) z z) i ts
+  upto_with : {z i : ℕ} {ts : List Token} → With (source s) z i ts → Upto z (With (source s) z z) i ts
   upto_with (with_here e) = upto_here (with_here e)
   upto_with (with_there e w) = upto_there e (upto_with w)
 
@@ -132,7 +132,7 @@ module _ (s : List ℕ) where
     ending : (list_from n s i).ending ≡ (list_from steps s z).ending
     onward : (us : List Token) → With (source s) z z us → With (source s) z i (front ++ us)
 
-  cut : (n : ℕ) {i z : ℕ} {here : List Token → Type 0} {ts : List Token} → ahead s i < n → (list_from n s i).ending.number ≢ 5 → Upto z here i ts → Cut n i z here ts
+  cut : {z : ℕ} {here : List Token → Type 0} (n : ℕ) {i : ℕ} {ts : List Token} → ahead s i < n → (list_from n s i).ending.number ≢ 5 → Upto z here i ts → Cut n i z here ts
   cut n {ts = ts} h q (upto_here k) = record { steps = n; enough = h; front = []; others = ts; parted = refl; kept = k; tokens = refl; ending = refl; onward = λ us w. w }
   cut n h q (upto_there {x = x} {i = i} {j = j} e b) =
       let g = goes n i j x h q e in
@@ -228,6 +228,7 @@ module _ (tests tree : Bool) (s : List ℕ) (size : ℕ) where
       go : (k : Look ℕ) → Seen s n z k → Ends (source s) tests tree (ahead s) (tokens_take s) (length s) few r k → (tokens_from (suc n) s z ≡ []) × ((list_from (suc n) s z).ending ≡ record { number = r.number; start = r.start; end = r.end })
       go over (seen_over t l) (ends_over q) = (t, l ∙ sym (ap (λ (x : grammar.Refusal). record { number = x.number; start = x.start; end = x.end }) q))
       go (wrong m a b) (seen_wrong t l) ends_wrong = (t, l)
+      go (found _ _) _ x7 = elim x7 [ ]
 
   -- at the end, and where no token starts, the list of (c) ends
   ending : {a : Answer} → Refuses a → FStringless s → (a.number ≡ 4) ⊎ (a.number ≡ 11) → EndsAt s a × Begins tests tree (tokens_of s)

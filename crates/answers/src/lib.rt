@@ -1,3 +1,2 @@
 // The answers of (a) and (b) over the bytes of a source; no code.
 #![tactic(auto)]
-

@@ -57,7 +57,7 @@ def kind(x, flag):
     """The number of a kind: a name, or a name and whether records may stand."""
     if isinstance(x, str):
         return KINDS[(x, "")]
-    return KINDS[(x[0], {"r": flag, "records": "true", "no-records": "false"}[x[1]])]
+    return KINDS[(x[0], {"r": flag, "records": "true", "no_records": "false"}[x[1]])]
 
 
 def words(x):
@@ -78,7 +78,7 @@ def symbol(item, flag):
         return ("unless", words(args[0]))
     if f in ("row", "part"):
         return ("note", 1 if f == "row" else 0)
-    if f == "left-side":
+    if f == "left_side":
         return ("side", kind(args[0], flag), kind(args[1], flag))
     if f == "text":
         return ("text", kind(args[0], flag))
@@ -115,18 +115,18 @@ def rule(items, flag):
 
 
 TABLE = read("Table")
-for item, items, more in re.findall(r"list-of (\([^)]*\)|\S+) (\S+) (\S+?)(?: \+\+|\))", re.search(r"^lists = (.*)$", TABLE, re.M).group(1)):
+for item, items, more in re.findall(r"list_of (\([^)]*\)|\S+) (\S+) (\S+?)(?: \+\+|\))", re.search(r"^lists = (.*)$", TABLE, re.M).group(1)):
     each = item.strip("()").split() if item[0] == "(" else item
     add(items, "", ["nothing", [["a", each], "∷", ["a", more], "∷", "[]"]])
     add(more, "", ["nothing", [["word", "comma"], "∷", ["a", items], "∷", "[]"]])
 for name, body in re.findall(r"^(\w+)(?: \w+)? =\n((?:    .*\n)+)", TABLE, re.M):
     for flag in (["true", "false"] if name == "exprs" else [""]):
-        for each in split(tree(NAME.findall(body)))[0] if name != "rest-kinds" else []:
+        for each in split(tree(NAME.findall(body)))[0] if name != "rest_kinds" else []:
             rule(each, flag)
 if sorted(ORDER) != sorted(KINDS.values()):
     raise SystemExit("hints.py: the kinds and the rules differ")
 
-PAIRED, COLON, END = {WORDS["name"], WORDS["underscore"]}, WORDS["':'"], WORDS["the-end"]
+PAIRED, COLON, END = {WORDS["name"], WORDS["underscore"]}, WORDS["':'"], WORDS["the_end"]
 firsts = {k: set() for k in ORDER}
 follows = {k: set() for k in ORDER}
 for start in (("TREE", ""), ("EXPR", "true")):
@@ -268,10 +268,9 @@ def views(vs):
 
 
 print("""-- Hints for the table, printed by hints/hints.py. Nothing trusts them: proofs/Checks.antt tests each.
-use mathlib.Core.List.{List, [], _∷_}
-use mathlib.Core.Bool.{Bool, true, false}
-use Rattle·grammar·specs.specs.Grammar.{Hint, one, pair}
-use Rattle·grammar·specs.specs.Choice.{ones}
+use Rattle.std.specs.Prelude.{List, [], ◌∷◌, Bool, true, false}
+use Rattle.grammar.specs.Grammar.{Hint, one, pair}
+use Rattle.grammar.specs.Choice.{ones}
 
 unfoldable pub hints : List Hint
 hints =""")

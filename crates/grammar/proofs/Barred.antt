@@ -305,10 +305,13 @@ module _ (l : Language) where
             | inr g ↦ absurd (no_run z (chosen l n (view S l i)) g.1 c t (omega arith) g.0)
           ]
 
+      lock_want : (w : List ℕ) {i z : S.Place} {i' j' : S'.Place} {x : Token} → ((y : Token) (u : S.Place) → S.look i ≡ found y u → T (one_of y.word w) → ⊥) → S'.look i' ≡ found x j' → T (one_of x.word w) → Cut S S' i z i' → z ≡ i → ⊥
+      lock_want w {x = x} g e' h (c_here {x = y} {u = u} q q') o = let ex : x ≡ y = cc in g y u q (subst (λ (a : Token). T (one_of a.word w)) ex h)
+      lock_want w g e' h (c_there {x = x} {i = i} {j = j} q q' c) o = let m = cut_short c in let n = less x i j q in let k = ap ahead o in omega arith
+
       -- what is refused at a token is refused whatever stands behind that token
       pub lock_stop : {G : Ask → Counts → Token → Bool} {d : Counts} {s : List Symbol} {i z : S.Place} {i' r : S'.Place} {p : Parts} {y : Why} → T (plainly y) → Stops S l d s i z y → RunBy S' l G d s i' r p → Cut S S' i z i' → ⊥
-      lock_stop b (stops_want {w = w} {i = i} g) (reads_token {x = x} e' h k t) (c_here {x = y} q q') = let ex : x ≡ y = cc in has S l (S.look i) w g q (subst (λ (a : Token). T (one_of a.word w)) ex h)
-      lock_stop b (stops_want g) (reads_token e h k t) (c_there {x = x} {i = i} {j = j} q q' c) = let m = cut_short c in let n = less x i j q in omega arith
+      lock_stop b (stops_want {w = w} {i = i} g) (reads_token e' h k t) c = lock_want w (λ y u q m. has S l (S.look i) w g q m) e' h c refl
       lock_stop b (stops_past e m g) (reads_token e' h k t) c = b
       lock_stop b (stops_token {j = j} e m g f) (reads_token e' h k t) (c_here {x = x} {i = i} {u = u} q q') = let o = stop_short f in let n = less x i u q in let ej : j ≡ u = cc in let w : ahead j ≡ ahead u = ap ahead ej in omega arith
       lock_stop b (stops_token {j = j} {z = z} e m g f) (reads_token {j = j'} e' h k t) (c_there {j = o} {j' = o'} q q' c) =

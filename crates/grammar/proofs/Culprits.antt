@@ -37,15 +37,15 @@ module _ (S : Stream) (tests tree : Bool) (ahead : S.Place → ℕ) (tokens_take
   silent : (i : S.Place) → T (torn (Q.piece i))
   silent i = tt
 
-  unquiet : {i z : S.Place} {ts : List Token} → Before Q z i ts → Before S z i ts
+  unquiet : {z i : S.Place} {ts : List Token} → Before Q z i ts → Before S z i ts
   unquiet before_here = before_here
   unquiet (before_there e b) = before_there e (unquiet b)
 
-  louder : {i z : S.Place} {ts : List Token} → With Q z i ts → With S z i ts
+  louder : {z i : S.Place} {ts : List Token} → With Q z i ts → With S z i ts
   louder (with_here e) = with_here e
   louder (with_there e w) = with_there e (louder w)
 
-  cut : {i z : S.Place} {ts : List Token} → With S z i ts → Cut (roto tests) Q lists i z ts
+  cut : {z i : S.Place} {ts : List Token} → With S z i ts → Cut (roto tests) Q lists i z ts
   cut (with_here e) = c_here e refl
   cut (with_there e w) = c_there e refl (cut w)
 

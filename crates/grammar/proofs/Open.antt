@@ -32,6 +32,7 @@ module _ (S : Stream) (l : Language) where
   first_stop : {d : Counts} {o : Scope} {n : ℕ} {s : List Symbol} {i z : S.Place} {y : Why} → Stops S l d (phrase o n ∷ []) i z y → Stops S l d (phrase o n ∷ s) i z y
   first_stop (stops_none e) = stops_none e
   first_stop (stops_in e g) = stops_in e g
+  first_stop {d = d} {o = o} {n = n} {s = s} {i = i} {z = z} {y = y} (stops_after {a = a} {m = m} {p = p} _ _ x24) = elim x24 [ ]
 
   then_stop : {d : Counts} {o : Scope} {n : ℕ} {s : List Symbol} {i m z : S.Place} {p : Parts} {y : Why} → Run S l d (phrase o n ∷ []) i m p → Stops S l d s m z y → Stops S l d (phrase o n ∷ s) i z y
   then_stop (reads_phrase e t reads_end) f = stops_after e t f

@@ -9,7 +9,7 @@ use native.Mathlib.Omega.{arith}
 use Rattle.grammar.specs.Grammar.{has_value, same, Look, found, Stream, Symbol, phrase, Token, Parts, Language, View, one_of}
 use Rattle.grammar.specs.Limits.{Counts, after, inside, kept}
 use Rattle.grammar.specs.Choice.{among}
-use Rattle.grammar.specs.Readings.{peek, reads_token, reads_phrase, reads_unless, reads_note, reads_side, reads_text, Reading}
+use Rattle.grammar.specs.Readings.{peek, reads_end, reads_token, reads_phrase, reads_unless, reads_note, reads_side, reads_text, Reading}
 use Rattle.grammar.specs.Runs.{view, may, Run}
 use Rattle.grammar.specs.Refusals.{Why, ill, left, lacks, torn, Stops, stops_want, stops_past, stops_token, stops_none, stops_in, stops_after, stops_barred, stops_unless, stops_note, stops_side_none, stops_side_in, stops_left, stops_side_after, stops_torn, stops_ill, stops_text}
 use Rattle.grammar.proofs.Good.{closed, all_good}
@@ -27,6 +27,7 @@ module _ (S : Stream) (l : Language) where
 
   -- a text is not both run and refused
   pub not_both : {d : Counts} {s : List Symbol} {i r z : S.Place} {p : Parts} {y : Why} → Run S l d s i r p → Stops S l d s i z y → ⊥
+  not_both {z = z} {y = y} (reads_end {d = d} {i = i}) x7 = elim x7 [ ]
   not_both (reads_token {w = w} {i = i} e h k t) (stops_want g) = has (S.look i) w g e h
   not_both (reads_token {d = d} {g = g} {x = x} e h k t) (stops_past {x = x'} e' h' n) = let ex : x ≡ x' = cc in T_not (kept g d x') n (subst (λ (y : Token). T (kept g d y)) ex k)
   not_both (reads_token {d = d} {g = g} {s = s} {x = x} {j = j} e h k t) (stops_token {x = x'} {j = j'} {z = z} {y = y} e' h' k' u) = let ej : j ≡ j' = cc in not_both t (subst (λ (q : S.Place). Stops S l (after g d) s q z y) (sym ej) u)

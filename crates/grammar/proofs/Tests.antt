@@ -156,6 +156,7 @@ module _ (S : Stream) where
     refused_by true q f = f
     refused_by false q (stops_none c) = stops_none (sym q ∙ c)
     refused_by false q (stops_in c t) = stops_in (sym q ∙ c) (stops_new t (low_one n i h c))
+    refused_by {z = z} {y = y} false q (stops_after {m = m} {p = p} _ _ x26) = elim x26 [ ]
 
   -- `test` by the new grammar: no declaration begins so
   pub test_refused : {d : Counts} {o : Scope} {i : S.Place} → peek S (roto false) i ≡ 'test' → Refused S (roto false) d o DECLARATION i i (amiss DECLARATION)

@@ -1,3 +1,2 @@
 // The grammar's definitions and theorems; no code.
 #![tactic(auto)]
-

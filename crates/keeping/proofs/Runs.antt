@@ -9,7 +9,7 @@ use lib.Dec.{T}
 use Rattle.rows.specs.Kinds as kinds
 use Rattle.grammar.specs.Words.{open_brace, close_brace, ':', semicolon, '=', 'const', 'fn', 'import', 'test', filter_words}
 use Rattle.grammar.specs.Grammar.{Ask, same, Symbol, token, phrase, note, Look, Stream, Parts, end, leaf, node, mark, View, one_of, alternatives, In, here, there}
-use Rattle.grammar.specs.Limits.{Counts, inside}
+use Rattle.grammar.specs.Limits.{Counts, inside, after}
 use Rattle.grammar.specs.Table.{word, one, opens, closes, row, a}
 use Rattle.grammar.specs.Kinds.{records, DECLARATION, NAME, PARAMS, RESULT, BLOCK, IMPORT, IMPORTED, TYPE, EXPR, STATEMENTS}
 use Rattle.grammar.specs.Choice.{eqv, chosen}
@@ -64,7 +64,7 @@ module _ (S : Stream) (b : Bool) where
   opened : {d : Counts} {s : List Symbol} {i r : S.Place} {p : Parts} (n : ℕ) → Front s → Reading S (roto b) d (s ++ (a BLOCK ∷ note n ∷ [])) i r p → (q : Parts) × Reading S (roto b) d (s ++ block) i r q
   unfolding inside
   opened {d = d} n nothing (reads_phrase {i = i} {m = m} {p = p} o t (reads_note reads_end)) = (p, subst (λ (s : List Symbol). Reading S (roto b) d s i m p) (the_block b (which o)) t)
-  opened n (a_token f) (reads_token {x = x} e m k t) = let u = opened n f t in (leaf x u.0, reads_token e m k u.1)
+  opened {d = d} n (a_token {g = g} f) (reads_token {x = x} e m k t) = let u = opened {d = after g d} n f t in (leaf x u.0, reads_token e m k u.1)
   opened n (a_phrase f) (reads_phrase {n = k} {a = c} {p = p} o t v) = let u = opened n f v in (node k c p u.0, reads_phrase o t u.1)
 
   picks_block : (c : Bool) → T (picks_on (roto c) BLOCK (some block) (open_brace ∷ []))
@@ -75,7 +75,7 @@ module _ (S : Stream) (b : Bool) where
   shut : {d : Counts} {s : List Symbol} {i r : S.Place} {p : Parts} (n : ℕ) → Front s → Run S (roto b) d (s ++ block) i r p → Goes d (s ++ (a BLOCK ∷ note n ∷ [])) i r
   unfolding inside block
   shut {i = i} {p = p} n nothing (reads_token {w = w} e m k t) = (node BLOCK block p (mark n end), reads_phrase (on_place (roto b) BLOCK (some block) S (open_brace ∷ []) i (picks_block b) (subst (λ (y : Look S.Place). T (one_of (word_of_lem S (roto b) y) w)) (sym e) m)) (reads_token e m k t) (reads_note reads_end))
-  shut n (a_token f) (reads_token {x = x} e m k t) = let u = shut n f t in (leaf x u.0, reads_token e m k u.1)
+  shut {d = d} n (a_token {g = g} f) (reads_token {x = x} e m k t) = let u = shut {d = after g d} n f t in (leaf x u.0, reads_token e m k u.1)
   shut n (a_phrase f) (reads_phrase {n = k} {a = c} {p = p} o t v) = let u = shut n f v in (node k c p u.0, reads_phrase o t u.1)
 
   by_block : {d : Counts} {s : List Symbol} {i r : S.Place} {p : Parts} (n : ℕ) → Front s → ((v : View) → T (closed (roto b) (s ++ block) (v ∷ []))) → Reading S (roto b) d (s ++ (a BLOCK ∷ note n ∷ [])) i r p → Goes d (s ++ (a BLOCK ∷ note n ∷ [])) i r

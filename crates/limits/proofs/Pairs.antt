@@ -200,7 +200,7 @@ unfolding Met NoMore
 no_more_pairs p q xs ys no_more h r = tt
 no_more_pairs p q xs ys (stands k a kids ts) h r =
     let u = row p q xs ys a (unmarked kids) k h.0 r in
-    (u.0, no_more_pairs _ (k + q) _ _ kids h.1 u.1, no_more_pairs p q (later xs) (later ys) ts h.2 (later_lead r))
+    (u.0, no_more_pairs (and_one (needs (place_of xs) a (unmarked kids)) p) (k + q) (layout (inner (needs (place_of xs) a (unmarked kids)) (place_of xs)) a (unmarked kids)).slots (layout (within k (place_of ys)) a (unmarked kids)).slots kids h.1 u.1, no_more_pairs p q (later xs) (later ys) ts h.2 (later_lead r))
 
 -- in every reading of every source
 pub source_pairs : (s : List ℕ) (tests tree : Bool) {p : Parts} → Text (source s) (roto tests) (goal tree) 0 p → NoMore 0 0 [] (marked s tree p)

@@ -1,3 +1,2 @@
 // Which prints pass no limit; no code.
 #![tactic(auto)]
-

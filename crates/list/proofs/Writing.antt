@@ -171,7 +171,7 @@ module _ (s : List ℕ) (n : ℕ) where
     after g = after_by st.reading g
 
   -- where no place is left
-  done : (st : State) (l : List Token) → length l ≡ n → n ≤ st.place → Good st l → (st.answer ≡ answer_of s n) × (l ≡ filled s n)
+  pub done : (st : State) (l : List Token) → length l ≡ n → n ≤ st.place → Good st l → (st.answer ≡ answer_of s n) × (l ≡ filled s n)
   done st l long over g = go st.reading g
     where
       go : (b : Bool) → GoodBy b st l → (st.answer ≡ answer_of s n) × (l ≡ filled s n)

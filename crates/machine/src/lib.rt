@@ -264,7 +264,7 @@ pub fn float(o: Sum, a: f64, b: f64) -> f64
         Sum::Minus => a - b,
         Sum::Times => a * b,
         Sum::Over => a / b,
-        Sum::Rest => a % b,
+        Sum::Rest => remainders::remainder(a, b),
     }
 }
 

@@ -20,7 +20,7 @@ use Rattle.grammar.specs.Rows.{Draft, children_of, row_of, take_note, add_row, b
 use Rattle.grammar.proofs.Sizes.{Sized, row_size, own_sized, phrase_sized}
 use Rattle.grammar.proofs.Subtrees.{write_sized}
 use Rattle.grammar.specs.Rows as grammar
-use Rattle.grammar.specs.Refusals.{Why, want, amiss, past, ask_number, said, Stops, stops_none, stops_in}
+use Rattle.grammar.specs.Refusals.{Why, want, amiss, past, ask_number, said, Stops, stops_none, stops_in, stops_after}
 use Rattle.grammar.specs.Phrases as phrases
 use Rattle.grammar.proofs.Bools.{and_l}
 use Rattle.parser.proofs.Laws.{bump_more}
@@ -190,6 +190,7 @@ stops_with : (s : List ℕ) {d d' : Counts} {o : Scope} {n i z : ℕ} {y : Why} 
 unfolding inside
 stops_with s e (stops_none q) = stops_none q
 stops_with s {i = i} {z = z} {y = y} e (stops_in {a = a} q g) = stops_in q (subst (λ (x : Counts). Stops (source s) language x a i z y) (sym e) g)
+stops_with s {d = d} {o = o} {n = n} {i = i} {z = z} {y = y} e (stops_after {a = a} {m = m} {p = p} _ _ x24) = elim x24 [ ]
 
 -- what it left is sized
 pub read_sized : (s : List ℕ) {d : Counts} {o : Scope} {n i z : ℕ} {b : Draft} → phrases.Read (source s) language d o n i z b → Sized b

@@ -9,7 +9,7 @@ use Rattle.grammar.specs.Words.{'if', comma, dot, four_words, open_brace}
 use Rattle.grammar.specs.Grammar.{one_of}
 use Rattle.grammar.proofs.Bools.{and_l, and_r}
 use Rattle.canon.specs.Trees.{Label, Forest, none, tree}
-use Rattle.canon.specs.Layout.{Entry, Layout, Place, Slot, ◌then◌, arm, arms, asks, begins, body, by, each, empty, first_kind, head, headed, imports, is_expr, is_four, joined, layout, layout_in, layouts, level, needs, only_if, rest, statements, whole}
+use Rattle.canon.specs.Layout.{Entry, Layout, Place, Slot, ◌then◌, arm, arms, asks, begins, between, body, by, each, empty, first_kind, head, headed, imports, is_expr, is_four, joined, layout, layout_in, layouts, level, needs, only_if, rest, statements, whole}
 use Rattle.canon.specs.Text.{later, place_of}
 use Rattle.printing.specs.Pairs.{expr_at}
 use Rattle.printing.proofs.Placed.{each_of}
@@ -144,7 +144,7 @@ statement_spare a k false e h = go (one_of a.kind (kinds.LET ∷ kinds.IMPORT �
 statements_spare : (v : ℕ) (w : List ℕ) (i : Bool) (f : Forest) → Spare kinds.BLOCK i (statements v w f).slots f
 statements_spare v w i none = tt
 statements_spare v w i (tree a k none) = ((λ e. statement_spare a k (is_four a.kind) refl e), tt)
-statements_spare v w i (tree a k (tree b j t)) = ((λ e. statement_spare a k (is_four a.kind) refl e), statements_spare v _ false (tree b j t))
+statements_spare v w i (tree a k (tree b j t)) = ((λ e. statement_spare a k (is_four a.kind) refl e), statements_spare v (between a.kind) false (tree b j t))
 
 -- each kind of row
 abbrev AllSpare : List Entry → Forest → Type 0

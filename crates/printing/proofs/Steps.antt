@@ -6,7 +6,7 @@ use Prim.Native.Nat.{ℕ, zero, suc, pred, ◌≤◌}
 use lib.Dec.{T, eqb}
 use Rattle.rows.specs.Kinds as kinds
 use Rattle.grammar.specs.Words.{'!', '&&', '-', ':', '=', '=>', '?', 'const', 'else', 'fn', 'for', 'if', 'import', 'in', 'let', 'match', 'test', 'while', '||', assign_signs, binary_signs, close_brace, close_bracket, close_paren, comma, compare_signs, dot, f_quote, filter_words, four_words, literals, name, names, open_brace, open_bracket, open_paren, path_items, product_signs, return_words, semicolon, sum_signs, underscore}
-use Rattle.grammar.specs.Grammar.{Ask, Parts, Stream, Symbol, Token, body, end, is_else_if, left_side, mark, node, one_of, phrase, same, text, token, unless}
+use Rattle.grammar.specs.Grammar.{Ask, Parts, Stream, Symbol, Token, body, end, is_else_if, leaf, left_side, mark, node, one_of, phrase, same, text, token, unless}
 use Rattle.grammar.specs.Kinds.{AFTER_EXPR, AFTER_FOUR, ARM, ARM_BODY, ARM_COMMA, ARM_NEXT, ARMS, BLOCK, BRACES_INSIDE, DECLARATION, DECLARATIONS, ELSE, ELSE_IF, ELSE_PART, EXPR, EXPRS, F_STRING, FIELD, FIELD_NAME, FIELDS, FIELDS_MORE, FOUR, GUARD, HOLE, IMPORT, IMPORTED, IMPORTPATH, IMPORTPATH_DOT, IMPORTPATH_REST, IMPORTPATHS, IMPORTPATHS_MORE, LET, LET_TYPE, NAME, NAMES, PARAMS, PATH_ITEM, PATH_REST, PATTERN, RESULT, STATEMENT, STATEMENTS, TYPE, TYPE_MARKS, TYPED_NAME, TYPED_NAMES, TYPED_NAMES_MORE, TYPES, VARIANT, VARIANT_NAMES, no_records, records}
 use Rattle.grammar.specs.Limits.{Counts}
 use Rattle.grammar.specs.Table.{a, one, word, opens, closes, prefix, head, literal, row, part, behind, rest_kinds, literal_row}
@@ -43,6 +43,9 @@ module _ (S : Stream) (G : Ask → Counts → Token → Bool) (s : List ℕ) whe
       let x = f p u in
       let y = g q w (beside K (top x.0 x.1 nil)) c v in
       (top x.0 x.1 y.0, subst (λ (t : Grove). Has (node n' a' p' q') (mid K c v) (mid t c v)) (beside_on K x.0 x.1 y.0) (has_sub i x.2 (has_rest j y.1 (has_end _))), o x.0 x.1 y.0 x.3 y.2)
+  list_some {p = end} i j f g o x K c v = elim x [ ]
+  list_some {p = leaf _ _} i j f g o x K c v = elim x [ ]
+  list_some {p = mark _ _} i j f g o x K c v = elim x [ ]
 
   list_comma : {L : Grove → Type 0} {m : ℕ} {p : Parts} → one_of m rest_kinds ≡ true → ((p : Parts) → claim_in (claims s) m p → Adds s L p) → Of (word comma ∷ phrase same m ∷ []) p → Adds s L p
   list_comma j g (all_token {x = x} i y (all_phrase {p = q} w all_end)) K c v = let z = g q w K c v in (z.0, has_tok x (plain_word x (comma ∷ []) tt i) (has_rest j z.1 (has_end _)), z.2)

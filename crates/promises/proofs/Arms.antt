@@ -17,7 +17,7 @@ use Rattle.grammar.specs.Grammar.{plain, Scope, same, body, Stream, Symbol, phra
 use Rattle.grammar.specs.Limits.{Counts, after, inside, kept}
 use Rattle.grammar.specs.Readings.{reads_phrase, reads_end}
 use Rattle.grammar.specs.Runs.{Picks, Run}
-use Rattle.grammar.specs.Refusals.{Why, Stops, stops_in, stops_none}
+use Rattle.grammar.specs.Refusals.{Why, Stops, stops_in, stops_none, stops_after}
 use Rattle.grammar.specs.Rows.{Row as Written, Item, Draft, children_of, write, blank}
 use Rattle.grammar.specs.Table.{a, behind, closes, word, row, part, rest_kinds}
 use Rattle.grammar.specs.Kinds.{records, BLOCK, ARMS, ARM, ARM_BODY, ARM_COMMA, ARM_NEXT, GUARD, PATTERN, EXPR}
@@ -89,6 +89,7 @@ module _ (s : List ℕ) {d₀ d d' : Counts} {n₀ n i j : ℕ} {ss : List Symbo
       stops_here : {z : ℕ} {y : Why} → Stops (source s) language d' (phrase same n ∷ []) j z y → Stops (source s) language d (phrase o n ∷ ss) j z y
       stops_here (stops_none q) = stops_none q
       stops_here {z} {y} (stops_in {a = c} q g) = stops_in q (subst (λ (u : Counts). Stops (source s) language u c j z y) (sym e) g)
+      stops_here {z = z} {y = y} (stops_after {m = m} _ _ x25) = elim x25 [ ]
 
       behind_it : {m : ℕ} {c : Draft} → Phrase-read (source s) language d' same n j m c → Open (source s) language d₀ same n₀ i (at d ss ∷ ks) m (with_phrase c a)
       behind_it v = reads (source s) language p (read_in s e v) x

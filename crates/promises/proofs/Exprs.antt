@@ -86,6 +86,7 @@ side_stops : (s : List ℕ) {d : Counts} {n n₁ i z : ℕ} {ss : List Symbol} {
 unfolding inside
 side_stops s (stops_none q) = stops_side_none q
 side_stops s (stops_in q g) = stops_side_in q g
+side_stops s {d = d} {n = n} {n₁ = n₁} {i = i} {z = z} {ss = ss} {y = y} (refusals.stops_after {m = m} {p = p} _ _ x24) = elim x24 [ ]
 
 pub side_refused : {f : Phrase} {d : Counts} {ks : List Left} {h : Here} {t : List ℕ} {y : Tally} {v k : ℕ} {ss : List Symbol} {n n₁ : ℕ} {r : Refusal} {t' : List ℕ} → Going f (at d (left_side n n₁ ∷ ss) ∷ ks) h t y v k → Stopped (next_phrase f d n h t) r t' → Stopped f r t'
 side_refused {f} g u = record { place = u.place; why = u.why; stops = g.opened.halt u.place u.why (inl (side_stops f.text u.stops)); says = u.says; kept = u.kept ∙ kept_length g }

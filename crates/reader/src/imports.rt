@@ -15,7 +15,7 @@ use tokens::word;
 use words::is_path_item;
 
 // Items joined by `.`, at the end perhaps a group.
-#[cycle(import_group_import_path)]
+#[cycle(imports)]
 fn import_path(s: &[u8], table: &mut [u64], at: Here, limits: Limits) -> Read
     requires { Stands s.now at }
     ensures { Answers (the s.now (counts limits) IMPORTPATH at table.old) 2 result table.new }
@@ -55,7 +55,7 @@ fn import_path(s: &[u8], table: &mut [u64], at: Here, limits: Limits) -> Read
 }
 
 // The group of an import path that began at `start` and has so many items; one path or more, no trailing comma.
-#[cycle(import_group_import_path)]
+#[cycle(imports)]
 fn import_group(
     s: &[u8],
     table: &mut [u64],

@@ -46,7 +46,7 @@ const TIGHTEST: u64 = 5;
 const COMPARISON: u64 = 3;
 
 // A return form, or binary, or an assignment.
-#[cycle(access_args_arm_assign_expr_atom_binop_expr_block_body_braces_cond_elses_expr_f_string_factor_field_four_guard_if_else_let_stmt_match_expr_operand_parens_path_expr_postfix_record_return_expr_stmt_stmts)]
+#[cycle(exprs)]
 fn expr(s: &[u8], table: &mut [u64], here: Here, limits: Limits, records: bool) -> Read
     requires { Stands s.now here }
     ensures { Answers (the s.now (counts limits) (EXPR records) here table.old) 1 result table.new }
@@ -58,7 +58,7 @@ fn expr(s: &[u8], table: &mut [u64], here: Here, limits: Limits, records: bool) 
 }
 
 // Binary, or a path, an assignment sign and binary.
-#[cycle(access_args_arm_assign_expr_atom_binop_expr_block_body_braces_cond_elses_expr_f_string_factor_field_four_guard_if_else_let_stmt_match_expr_operand_parens_path_expr_postfix_record_return_expr_stmt_stmts)]
+#[cycle(exprs)]
 fn assign_expr(s: &[u8], table: &mut [u64], here: Here, limits: Limits, records: bool) -> Read
     requires { (Stands s.now here) × (T (one_of (word_of here) return_words) → ⊥) }
     ensures { Answers (the s.now (counts limits) (EXPR records) here table.old) 1 result table.new }
@@ -96,7 +96,7 @@ fn assign_expr(s: &[u8], table: &mut [u64], here: Here, limits: Limits, records:
 
 // Any number of `return`, `accept`, `reject`: where one stands behind another, its row is over that one's. The last takes an expr
 // exactly when the next token can begin one; where no record may stand, `{` has to follow, which begins one.
-#[cycle(access_args_arm_assign_expr_atom_binop_expr_block_body_braces_cond_elses_expr_f_string_factor_field_four_guard_if_else_let_stmt_match_expr_operand_parens_path_expr_postfix_record_return_expr_stmt_stmts)]
+#[cycle(exprs)]
 fn return_expr(s: &[u8], table: &mut [u64], at: Here, limits: Limits, records: bool) -> Read
     requires { (Stands s.now at) × (T (one_of (word_of at) return_words)) }
     ensures { Answers (the s.now (counts limits) (EXPR records) at table.old) 1 result table.new }
@@ -138,7 +138,7 @@ fn return_expr(s: &[u8], table: &mut [u64], at: Here, limits: Limits, records: b
 
 // Factors joined by signs, from the level `up` on; a tighter sign binds first. What was read is joined with what stands
 // behind a sign that binds no tighter than the one before it, and comparisons aren't chained.
-#[cycle(access_args_arm_assign_expr_atom_binop_expr_block_body_braces_cond_elses_expr_f_string_factor_field_four_guard_if_else_let_stmt_match_expr_operand_parens_path_expr_postfix_record_return_expr_stmt_stmts)]
+#[cycle(exprs)]
 fn binop_expr(s: &[u8], table: &mut [u64], at: Here, limits: Limits, records: bool, up: u64) -> Read
     requires { (Stands s.now at) × ((1 ≤ up) × (up ≤ 5)) }
     ensures { Answers (the s.now (counts limits) (LEVEL up records) at table.old) 1 result table.new }
@@ -199,7 +199,7 @@ fn chained_level(level: u64) -> u64
 
 // What the signs of a level join: at the tightest an operand, else what the signs of the next level join. An operand without a
 // sign is read at once, which saves the stack of a call for signs.
-#[cycle(access_args_arm_assign_expr_atom_binop_expr_block_body_braces_cond_elses_expr_f_string_factor_field_four_guard_if_else_let_stmt_match_expr_operand_parens_path_expr_postfix_record_return_expr_stmt_stmts)]
+#[cycle(exprs)]
 fn factor(
     s: &[u8],
     table: &mut [u64],
@@ -221,7 +221,7 @@ fn factor(
 }
 
 // Any `!` or `-`, then an atom with what follows it: one call a sign, with one sign less allowed.
-#[cycle(access_args_arm_assign_expr_atom_binop_expr_block_body_braces_cond_elses_expr_f_string_factor_field_four_guard_if_else_let_stmt_match_expr_operand_parens_path_expr_postfix_record_return_expr_stmt_stmts)]
+#[cycle(exprs)]
 fn operand(s: &[u8], table: &mut [u64], at: Here, limits: Limits, records: bool) -> Read
     requires { Stands s.now at }
     ensures { Answers (the s.now (counts limits) (OPERAND records) at table.old) 1 result table.new }
@@ -264,7 +264,7 @@ fn operand(s: &[u8], table: &mut [u64], at: Here, limits: Limits, records: bool)
 }
 
 // An atom with any `?`, `( list of exprs )`, `. name`.
-#[cycle(access_args_arm_assign_expr_atom_binop_expr_block_body_braces_cond_elses_expr_f_string_factor_field_four_guard_if_else_let_stmt_match_expr_operand_parens_path_expr_postfix_record_return_expr_stmt_stmts)]
+#[cycle(exprs)]
 fn access(s: &[u8], table: &mut [u64], at: Here, limits: Limits, records: bool) -> Read
     requires { (Stands s.now at) × ((word_of at ≢ '!') × (word_of at ≢ '-')) }
     ensures { Answers (the s.now (counts limits) (OPERAND records) at table.old) 1 result table.new }
@@ -290,7 +290,7 @@ fn access(s: &[u8], table: &mut [u64], at: Here, limits: Limits, records: bool) 
 }
 
 // What may stand behind an atom: `?`, `( list of exprs )`, `. name`.
-#[cycle(access_args_arm_assign_expr_atom_binop_expr_block_body_braces_cond_elses_expr_f_string_factor_field_four_guard_if_else_let_stmt_match_expr_operand_parens_path_expr_postfix_record_return_expr_stmt_stmts)]
+#[cycle(exprs)]
 fn postfix(
     s: &[u8],
     table: &mut [u64],
@@ -337,7 +337,7 @@ fn field_access(s: &[u8], table: &mut [u64], left: Node, here: Here, since: usiz
 }
 
 // `( list of exprs )`
-#[cycle(access_args_arm_assign_expr_atom_binop_expr_block_body_braces_cond_elses_expr_f_string_factor_field_four_guard_if_else_let_stmt_match_expr_operand_parens_path_expr_postfix_record_return_expr_stmt_stmts)]
+#[cycle(exprs)]
 fn args(s: &[u8], table: &mut [u64], at: Here, limits: Limits) -> Read
     requires { Stands s.now at }
     ensures { (Listed s.now at table.old limits open_paren EXPRS close_paren result table.new) × (onward at result) × (few result) }
@@ -367,7 +367,7 @@ fn args(s: &[u8], table: &mut [u64], at: Here, limits: Limits) -> Read
     close(s, here, word::ROUND_RIGHT, opening.start, children)
 }
 
-#[cycle(access_args_arm_assign_expr_atom_binop_expr_block_body_braces_cond_elses_expr_f_string_factor_field_four_guard_if_else_let_stmt_match_expr_operand_parens_path_expr_postfix_record_return_expr_stmt_stmts)]
+#[cycle(exprs)]
 fn atom(s: &[u8], table: &mut [u64], here: Here, limits: Limits, records: bool) -> Read
     requires { (Stands s.now here) × ((word_of here ≢ '!') × (word_of here ≢ '-')) }
     ensures { Atom s.now here table.old limits records result table.new }
@@ -424,7 +424,7 @@ fn literal(s: &[u8], table: &mut [u64], here: Here) -> Read
 }
 
 // A string with expressions inside: text, then a hole with one expr, and so on to the quote.
-#[cycle(access_args_arm_assign_expr_atom_binop_expr_block_body_braces_cond_elses_expr_f_string_factor_field_four_guard_if_else_let_stmt_match_expr_operand_parens_path_expr_postfix_record_return_expr_stmt_stmts)]
+#[cycle(exprs)]
 fn f_string(s: &[u8], table: &mut [u64], at: Here, limits: Limits) -> Read
     requires { (Stands s.now at) × (word_of at ≡ f_quote) }
     ensures { Answers (the s.now (counts limits) F_STRING at table.old) 1 result table.new }
@@ -462,7 +462,7 @@ fn f_string(s: &[u8], table: &mut [u64], at: Here, limits: Limits) -> Read
 }
 
 // A path, or a record that a path begins.
-#[cycle(access_args_arm_assign_expr_atom_binop_expr_block_body_braces_cond_elses_expr_f_string_factor_field_four_guard_if_else_let_stmt_match_expr_operand_parens_path_expr_postfix_record_return_expr_stmt_stmts)]
+#[cycle(exprs)]
 fn path_expr(s: &[u8], table: &mut [u64], here: Here, limits: Limits, records: bool) -> Read
     requires { (Stands s.now here) × (T (one_of (word_of here) path_items)) }
     ensures { Atom s.now here table.old limits records result table.new }
@@ -485,7 +485,7 @@ fn path_expr(s: &[u8], table: &mut [u64], here: Here, limits: Limits, records: b
 }
 
 // `( expr )` gives no row and widens no span.
-#[cycle(access_args_arm_assign_expr_atom_binop_expr_block_body_braces_cond_elses_expr_f_string_factor_field_four_guard_if_else_let_stmt_match_expr_operand_parens_path_expr_postfix_record_return_expr_stmt_stmts)]
+#[cycle(exprs)]
 fn parens(s: &[u8], table: &mut [u64], here: Here, limits: Limits) -> Read
     requires { Stands s.now here }
     ensures { Answers (the s.now (counts limits) PARENS here table.old) 1 result table.new }
@@ -506,7 +506,7 @@ fn parens(s: &[u8], table: &mut [u64], here: Here, limits: Limits) -> Read
 }
 
 // A record where `{ name :` stands, else a block. Behind `{` and a name one token is looked at, and dropped.
-#[cycle(access_args_arm_assign_expr_atom_binop_expr_block_body_braces_cond_elses_expr_f_string_factor_field_four_guard_if_else_let_stmt_match_expr_operand_parens_path_expr_postfix_record_return_expr_stmt_stmts)]
+#[cycle(exprs)]
 fn braces(s: &[u8], table: &mut [u64], here: Here, limits: Limits) -> Read
     requires { Stands s.now here }
     ensures { Answers (the s.now (counts limits) BRACES here table.old) 1 result table.new }
@@ -530,7 +530,7 @@ fn braces(s: &[u8], table: &mut [u64], here: Here, limits: Limits) -> Read
 }
 
 // The fields of a record from behind its `{` on; `paths` is 1 if a path stands before that.
-#[cycle(access_args_arm_assign_expr_atom_binop_expr_block_body_braces_cond_elses_expr_f_string_factor_field_four_guard_if_else_let_stmt_match_expr_operand_parens_path_expr_postfix_record_return_expr_stmt_stmts)]
+#[cycle(exprs)]
 fn record(
     s: &[u8],
     table: &mut [u64],
@@ -564,7 +564,7 @@ fn record(
 }
 
 // `name : expr`
-#[cycle(access_args_arm_assign_expr_atom_binop_expr_block_body_braces_cond_elses_expr_f_string_factor_field_four_guard_if_else_let_stmt_match_expr_operand_parens_path_expr_postfix_record_return_expr_stmt_stmts)]
+#[cycle(exprs)]
 fn field(s: &[u8], table: &mut [u64], here: Here, limits: Limits) -> Read
     requires { (Stands s.now here) × (limits.signs ≡ 32) }
     ensures { Answers (the s.now (counts limits) FIELD here table.old) 1 result table.new }
@@ -590,7 +590,7 @@ fn field(s: &[u8], table: &mut [u64], here: Here, limits: Limits) -> Read
 }
 
 // An `if`, `while`, `for` or `match`.
-#[cycle(access_args_arm_assign_expr_atom_binop_expr_block_body_braces_cond_elses_expr_f_string_factor_field_four_guard_if_else_let_stmt_match_expr_operand_parens_path_expr_postfix_record_return_expr_stmt_stmts)]
+#[cycle(exprs)]
 fn four(s: &[u8], table: &mut [u64], here: Here, limits: Limits) -> Read
     requires { Stands s.now here }
     ensures { Answers (the s.now (counts limits) FOUR here table.old) 1 result table.new }
@@ -648,7 +648,7 @@ fn name_in(s: &[u8], table: &mut [u64], here: Here) -> Read
 
 // `if expr block [else block or if]`. Like the other three it is read from behind its word on, which starts at `start`. The
 // row of an `if` is over that of the `if` behind its `else`.
-#[cycle(access_args_arm_assign_expr_atom_binop_expr_block_body_braces_cond_elses_expr_f_string_factor_field_four_guard_if_else_let_stmt_match_expr_operand_parens_path_expr_postfix_record_return_expr_stmt_stmts)]
+#[cycle(exprs)]
 fn if_else(s: &[u8], table: &mut [u64], at: Here, limits: Limits, start: usize) -> Read
     requires { (Stands s.now at) × (limits.signs ≡ 32) × (start < 65536) }
     ensures { Headed after_if s.now at table.old limits start result table.new }
@@ -693,7 +693,7 @@ fn if_else(s: &[u8], table: &mut [u64], at: Here, limits: Limits, start: usize) 
 }
 
 // `expr block` behind an `if`, a `while` or an `in`.
-#[cycle(access_args_arm_assign_expr_atom_binop_expr_block_body_braces_cond_elses_expr_f_string_factor_field_four_guard_if_else_let_stmt_match_expr_operand_parens_path_expr_postfix_record_return_expr_stmt_stmts)]
+#[cycle(exprs)]
 fn cond(s: &[u8], table: &mut [u64], at: Here, limits: Limits) -> Read
     requires { Stands s.now at }
     ensures { (Tested s.now at table.old limits result table.new) × (Beyond s.now at result) }
@@ -706,7 +706,7 @@ fn cond(s: &[u8], table: &mut [u64], at: Here, limits: Limits) -> Read
 }
 
 // The block behind an `else`, and the row of its `if`.
-#[cycle(access_args_arm_assign_expr_atom_binop_expr_block_body_braces_cond_elses_expr_f_string_factor_field_four_guard_if_else_let_stmt_match_expr_operand_parens_path_expr_postfix_record_return_expr_stmt_stmts)]
+#[cycle(exprs)]
 fn elses(
     s: &[u8],
     table: &mut [u64],
@@ -737,7 +737,7 @@ fn else_if(s: &[u8], here: Here, limits: Limits) -> Read
 }
 
 // `match expr { arms }`; its children are the expr and they.
-#[cycle(access_args_arm_assign_expr_atom_binop_expr_block_body_braces_cond_elses_expr_f_string_factor_field_four_guard_if_else_let_stmt_match_expr_operand_parens_path_expr_postfix_record_return_expr_stmt_stmts)]
+#[cycle(exprs)]
 fn match_expr(s: &[u8], table: &mut [u64], at: Here, limits: Limits, start: usize) -> Read
     requires { (Stands s.now at) × (limits.signs ≡ 32) }
     ensures { Headed after_match s.now at table.old limits start result table.new }
@@ -775,7 +775,7 @@ fn match_expr(s: &[u8], table: &mut [u64], at: Here, limits: Limits, start: usiz
 }
 
 // A pattern, perhaps a guard, `=>`, a body, and its comma.
-#[cycle(access_args_arm_assign_expr_atom_binop_expr_block_body_braces_cond_elses_expr_f_string_factor_field_four_guard_if_else_let_stmt_match_expr_operand_parens_path_expr_postfix_record_return_expr_stmt_stmts)]
+#[cycle(exprs)]
 fn arm(s: &[u8], table: &mut [u64], here: Here, limits: Limits) -> Arm
     requires { (Stands s.now here) × (limits.signs ≡ 32) × T (one_of (word_of here) names) }
     ensures { OneArm (the s.now (counts limits) ARM here table.old) result table.new }
@@ -811,7 +811,7 @@ fn arm(s: &[u8], table: &mut [u64], here: Here, limits: Limits) -> Arm
 }
 
 // A body that begins with `{` is a block; another is an expr.
-#[cycle(access_args_arm_assign_expr_atom_binop_expr_block_body_braces_cond_elses_expr_f_string_factor_field_four_guard_if_else_let_stmt_match_expr_operand_parens_path_expr_postfix_record_return_expr_stmt_stmts)]
+#[cycle(exprs)]
 fn body(s: &[u8], table: &mut [u64], here: Here, limits: Limits) -> Read
     requires { Stands s.now here }
     ensures { Bodied s.now here table.old limits result table.new }
@@ -843,7 +843,7 @@ fn arm_comma(s: &[u8], here: Here, begin: u64) -> Arm
 }
 
 // Perhaps `if expr`: 1 child, or 0.
-#[cycle(access_args_arm_assign_expr_atom_binop_expr_block_body_braces_cond_elses_expr_f_string_factor_field_four_guard_if_else_let_stmt_match_expr_operand_parens_path_expr_postfix_record_return_expr_stmt_stmts)]
+#[cycle(exprs)]
 fn guard(s: &[u8], table: &mut [u64], here: Here, limits: Limits) -> Read
     requires { Stands s.now here }
     ensures { Guarded s.now here table.old limits result table.new }
@@ -863,7 +863,7 @@ fn guard(s: &[u8], table: &mut [u64], here: Here, limits: Limits) -> Read
 }
 
 // `{ statements [last] }`
-#[cycle(access_args_arm_assign_expr_atom_binop_expr_block_body_braces_cond_elses_expr_f_string_factor_field_four_guard_if_else_let_stmt_match_expr_operand_parens_path_expr_postfix_record_return_expr_stmt_stmts)]
+#[cycle(exprs)]
 fn block(s: &[u8], table: &mut [u64], here: Here, limits: Limits) -> Read
     requires { Stands s.now here }
     ensures { Answers (the s.now (counts limits) BLOCK here table.old) 1 result table.new }
@@ -876,7 +876,7 @@ fn block(s: &[u8], table: &mut [u64], here: Here, limits: Limits) -> Read
 }
 
 // The statements of a block that began at `start`, from behind its `{` on.
-#[cycle(access_args_arm_assign_expr_atom_binop_expr_block_body_braces_cond_elses_expr_f_string_factor_field_four_guard_if_else_let_stmt_match_expr_operand_parens_path_expr_postfix_record_return_expr_stmt_stmts)]
+#[cycle(exprs)]
 fn stmts(s: &[u8], table: &mut [u64], at: Here, limits: Limits, start: usize) -> Read
     requires { (Stands s.now at) × (limits.signs ≡ 32) }
     ensures { Stated s.now at table.old limits start result table.new }
@@ -913,7 +913,7 @@ fn stmts(s: &[u8], table: &mut [u64], at: Here, limits: Limits, start: usize) ->
 }
 
 // A statement and how it ended.
-#[cycle(access_args_arm_assign_expr_atom_binop_expr_block_body_braces_cond_elses_expr_f_string_factor_field_four_guard_if_else_let_stmt_match_expr_operand_parens_path_expr_postfix_record_return_expr_stmt_stmts)]
+#[cycle(exprs)]
 fn stmt(s: &[u8], table: &mut [u64], here: Here, limits: Limits) -> Stmt
     requires { (Stands s.now here) × (limits.signs ≡ 32) }
     ensures { (Statement s.now here table.old limits result table.new) × (BeyondStatement s.now here result) }
@@ -948,7 +948,7 @@ fn stmt(s: &[u8], table: &mut [u64], here: Here, limits: Limits) -> Stmt
 }
 
 // `let name [: type] = expr ;`
-#[cycle(access_args_arm_assign_expr_atom_binop_expr_block_body_braces_cond_elses_expr_f_string_factor_field_four_guard_if_else_let_stmt_match_expr_operand_parens_path_expr_postfix_record_return_expr_stmt_stmts)]
+#[cycle(exprs)]
 fn let_stmt(s: &[u8], table: &mut [u64], here: Here, limits: Limits) -> Read
     requires { (Stands s.now here) × (word_of here ≡ 'let') }
     ensures { Answers (the s.now (counts limits) LET here table.old) 1 result table.new }

@@ -17,7 +17,7 @@ use tokens::word;
 use words::{can_begin_type, closing_of, is_name, is_path_item};
 
 // A type, then any number of `?`.
-#[cycle(path_type_record_type_type_base_type_expr_typed_name_typed_names_types)]
+#[cycle(types)]
 pub fn type_expr(s: &[u8], table: &mut [u64], at: Here, limits: Limits) -> Read
     requires { Stands s.now at }
     ensures { Answers (the s.now (counts limits) TYPE at table.old) 1 result table.new }
@@ -57,7 +57,7 @@ pub fn question(
     finish(table, plain_row(kind, left.start, mark.end, 1), next, since)
 }
 
-#[cycle(path_type_record_type_type_base_type_expr_typed_name_typed_names_types)]
+#[cycle(types)]
 fn type_base(s: &[u8], table: &mut [u64], here: Here, limits: Limits) -> Read
     requires { Stands s.now here }
     ensures { Answers (the s.now (counts limits) TYPE_BASE here table.old) 1 result table.new }
@@ -113,7 +113,7 @@ fn unit_type(s: &[u8], table: &mut [u64], here: Here, limits: Limits) -> Read
     )
 }
 
-#[cycle(path_type_record_type_type_base_type_expr_typed_name_typed_names_types)]
+#[cycle(types)]
 fn record_type(s: &[u8], table: &mut [u64], here: Here, limits: Limits) -> Read
     requires { (Stands s.now here) × (word_of here ≡ open_brace) }
     ensures { Answers (the s.now (counts limits) TYPE_BASE here table.old) 1 result table.new }
@@ -127,7 +127,7 @@ fn record_type(s: &[u8], table: &mut [u64], here: Here, limits: Limits) -> Read
 }
 
 // A path with perhaps `[ list of types ]`.
-#[cycle(path_type_record_type_type_base_type_expr_typed_name_typed_names_types)]
+#[cycle(types)]
 fn path_type(s: &[u8], table: &mut [u64], here: Here, limits: Limits) -> Read
     requires { (Stands s.now here) × (T (one_of (word_of here) path_items)) }
     ensures { Answers (the s.now (counts limits) TYPE_BASE here table.old) 1 result table.new }
@@ -153,7 +153,7 @@ fn path_type(s: &[u8], table: &mut [u64], here: Here, limits: Limits) -> Read
 }
 
 // `[ list of types ]`
-#[cycle(path_type_record_type_type_base_type_expr_typed_name_typed_names_types)]
+#[cycle(types)]
 fn types(s: &[u8], table: &mut [u64], at: Here, limits: Limits) -> Read
     requires { Stands s.now at }
     ensures { Listed s.now at table.old limits open_bracket TYPES close_bracket result table.new }
@@ -184,7 +184,7 @@ fn types(s: &[u8], table: &mut [u64], at: Here, limits: Limits) -> Read
 }
 
 // A list of `name : type` in brackets of a kind.
-#[cycle(path_type_record_type_type_base_type_expr_typed_name_typed_names_types)]
+#[cycle(types)]
 pub fn typed_names(s: &[u8], table: &mut [u64], at: Here, limits: Limits, bracket: u64) -> Read
     requires { (Stands s.now at) × ((bracket ≡ open_paren) ⊎ (bracket ≡ open_brace)) }
     ensures { Listed s.now at table.old limits bracket TYPED_NAMES (closing_of bracket) result table.new }
@@ -216,7 +216,7 @@ pub fn typed_names(s: &[u8], table: &mut [u64], at: Here, limits: Limits, bracke
 }
 
 // `name : type`
-#[cycle(path_type_record_type_type_base_type_expr_typed_name_typed_names_types)]
+#[cycle(types)]
 fn typed_name(s: &[u8], table: &mut [u64], here: Here, limits: Limits) -> Read
     requires { Stands s.now here }
     ensures { Answers (the s.now (counts limits) TYPED_NAME here table.old) 1 result table.new }

@@ -12,7 +12,7 @@ use Rattle.tokens.specs.declared.Whole.TheVariants.{Fine, Refused}
 use Rattle.tokens.specs.Tokens.{whole_of}
 use Rattle.grammar.specs.Grammar.{Ask, plain, has_value, opens_bracket, closes_bracket, is_prefix, is_head, is_else_if, same, Look, found, over, Stream, Symbol, phrase, Token, Parts, Language, one_of}
 use Rattle.grammar.specs.Limits.{Counts, zeros, after, inside, kept}
-use Rattle.grammar.specs.Readings.{peek, reads_token, reads_phrase, reads_unless, reads_note, reads_side, reads_text}
+use Rattle.grammar.specs.Readings.{peek, reads_end, reads_token, reads_phrase, reads_unless, reads_note, reads_side, reads_text}
 use Rattle.grammar.specs.Runs.{may, Run, RunBy}
 use Rattle.grammar.specs.Refusals.{Why, past, ask_number, said, Stops, stops_want, stops_past, stops_token, stops_none, stops_in, stops_after, stops_barred, stops_unless, stops_note, stops_side_none, stops_side_in, stops_left, stops_side_after, stops_torn, stops_ill, stops_text}
 use Rattle.grammar.proofs.Refused.{untorn, clash, has}
@@ -54,6 +54,7 @@ module _ (S : Stream) (l : Language) where
   peek_same {m} {m'} {p} {p'} e f = ap (λ (x : S.Place). may S l (l.is_path p) (peek S l x)) e ∙ ap (λ (x : Parts). may S l (l.is_path x) (peek S l m')) f
 
   pub limited : {d : Counts} {s : List Symbol} {i r z : S.Place} {p : Parts} {y : Why} → RunBy S l valued d s i r p → Stops S l d s i z y → Limited z y
+  limited reads_end f = elim f [ ]
   limited (reads_token {w = w} {i = i} e h k t) (stops_want g) = has S l (S.look i) w g e h
   limited (reads_token {d = d} {g = g} {x = x} e h k t) (stops_past {x = x'} {j = j'} e' h' n) =
       let ex : x ≡ x' = cc in

@@ -56,6 +56,10 @@ module _ (s w : List ℕ) where
   -- from one place on, the same tokens but for their bytes end at one place
   one_stop : {S : Stream} {xs ys : List Token} {i r r' : S.Place} → Shown S Q xs i r → Shown S Like ys i r' → Twins Q as_like xs ys → r ≡ r'
   one_stop shown_none shown_none twins_none = refl
+  one_stop shown_none (shown_token f b m v) x = elim x [ ]
+  one_stop shown_none (shown_piece f b m v) x = elim x [ ]
+  one_stop (shown_token e a n u) shown_none x = elim x [ ]
+  one_stop (shown_piece e a n u) shown_none x = elim x [ ]
   one_stop {S} {r' = r'} (shown_token {j = j} e a n u) (shown_token {xs = ys} {j = j'} f b m v) (twins_more q t) = one_stop u (subst (λ (k : S.Place). Shown S Like ys k r') (sym (one_found e f).1) v) t
   one_stop {S} {r' = r'} (shown_piece {j = j} e a n u) (shown_piece {xs = ys} {j = j'} f b m v) (twins_more q t) = one_stop u (subst (λ (k : S.Place). Shown S Like ys k r') (sym (one_found e f).1) v) t
   one_stop (shown_token {x = x} e a n u) (shown_piece f b m v) (twins_more q t) = absurd (T_not (is_piece x.word) n (subst (λ (c : ℕ). T (is_piece c)) (ap (λ (o : Token). o.word) q.like) m))

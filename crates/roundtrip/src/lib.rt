@@ -1,3 +1,2 @@
 // A print, read again, is the same tree; no code.
 #![tactic(auto)]
-

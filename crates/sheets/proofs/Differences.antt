@@ -35,6 +35,7 @@ module _ {A : Type 0} where
 
   -- a difference in the front of a list is one of the list
   pub front_difference : (xs ys zs : List A) {n : ℕ} → Differ xs ys n → n < length ys → (zs ≡ []) ⊎ (length ys ≤ length xs) → Differ (xs ++ zs) ys n
+  front_difference [] [] zs {n = n} x6 l w = elim x6 [ ]
   front_difference (x ∷ xs) (y ∷ ys) zs (other h) l w = other h
   front_difference [] (y ∷ ys) zs missing l (inl e) = subst (λ (z : List A). Differ z (y ∷ ys) 0) (sym e) missing
   front_difference [] (y ∷ ys) zs missing l (inr k) = absurd (omega arith)

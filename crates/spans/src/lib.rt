@@ -1,3 +1,2 @@
 // A row's span lies in its parent's; no code.
 #![tactic(auto)]
-

@@ -14,6 +14,7 @@ pub data Among (m : ℕ) : Bool → ℤ → Type 0 where
 stays : (m : ℕ) (s : Bool) (z : ℤ) → 0 < m → Among m s z → standing s m (lowest m z % m) ≡ z
 unfolding standing lowest
 stays m false (pos n) M (plain h) = ap (λ (x : ℕ). pos x) (mod-eq_of_lt (mod-lt n M) ∙ mod-eq_of_lt h)
+stays m false (negsuc n) M x4 = elim x4 [ ]
 stays m true (pos n) M (upper h) =
     let e : n % m % m ≡ n = mod-eq_of_lt (mod-lt n M) ∙ mod-eq_of_lt (omega (arith, h)) in
     ap (λ (x : ℕ). cond (leb m (x + x)) (negsuc (m - suc x)) (pos x)) e

@@ -48,7 +48,7 @@ unfoldable pub or_none : Bool → ℕ → Part
 or_none true n = Part.None
 or_none false n = Part.Of n
 
--- "signed division rounds toward zero, `%` takes the sign of the left operand": quotZ and remZ of the library
+-- "signed division rounds toward zero, `%` takes the sign of the left operand": int_div and int_rem of std
 unfoldable pub quotient_of : Integer → ℕ → ℕ → Part
 unfolding or_none lowest number
 quotient_of t a b = or_none (unsigned_abs (number t b) == 0) (lowest (span t) (int_div (number t a) (number t b)))

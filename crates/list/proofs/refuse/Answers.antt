@@ -1,0 +1,6 @@
+use Rattle.list.specs.States.{failed}
+use Rattle.list.proofs.refuse.Goals as goal
+
+pub returns : goal.returns
+unfolding failed
+returns c = rw (c.new.ensures, c.count_tokens.ensures)

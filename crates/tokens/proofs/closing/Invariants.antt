@@ -1,0 +1,14 @@
+use mathlib.Core.Path.{◌≡◌}
+use mathlib.Core.Bool.{true, false}
+use Prim.Native.Nat.{◌-◌}
+use lib.ListN.{length}
+use Rattle.chars.specs.Chars.{byte_at}
+use Rattle.chars.specs.Runs.{past_span}
+use Rattle.tokens.specs.Rules.{goes_on, escapes}
+use Rattle.tokens.proofs.closing.Given as goal
+
+abbrev pub invariant-loop-i : goal.invariant-loop-i
+invariant-loop-i l = (past_span (goes_on l.quote) escapes false l.s l.i ≡ past_span (goes_on l.quote) escapes false l.s l.at) × (goes_on l.quote false (byte_at l.s l.i) ≡ true → byte_at l.s l.i ≡ 92)
+
+abbrev pub decreases-loop-i : goal.decreases-loop-i
+decreases-loop-i l = length l.s - l.i

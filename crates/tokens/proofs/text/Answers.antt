@@ -1,0 +1,11 @@
+use mathlib.Core.Path.{ap, ◌∙◌}
+use borrow.Author.Tests.{eq-eqb, ne_eqb}
+use Rattle.tokens.specs.Rules.{quote_at}
+use Rattle.tokens.proofs.Fits.{first, second}
+use Rattle.tokens.proofs.text.Goals as goal
+use Rattle.tokens.proofs.text.Goals.{then-quote-eq34, else-quote-eq34}
+
+pub returns : goal.returns
+returns c =
+    let a = c.args in
+    c.quoted.ensures ∙ ap (λ w. quote_at a.quote w a.s.now a.at) (elim c.if-quote-eq34.branch [ then-quote-eq34 w ↦ first _ (eq-eqb _ _ w.if-quote-eq34.true) w.word-is | else-quote-eq34 w ↦ second _ (ne_eqb _ _ w.if-quote-eq34.false) w.word-is ])

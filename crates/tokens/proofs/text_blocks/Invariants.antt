@@ -1,0 +1,13 @@
+use mathlib.Core.Path.{◌≡◌}
+use Prim.Native.Nat.{◌-◌, ◌≤◌}
+use lib.ListN.{length}
+use mathlib.Core.Bool.{false}
+use Rattle.chars.specs.Runs.{past_span}
+use Rattle.tokens.specs.Rules.{goes_on, escapes}
+use Rattle.tokens.proofs.text_blocks.Given as goal
+
+abbrev pub invariant-loop-i : goal.invariant-loop-i
+invariant-loop-i l = (l.i ≤ length l.s) × (past_span (goes_on l.quote) escapes false l.s l.i ≡ past_span (goes_on l.quote) escapes false l.s l.at)
+
+abbrev pub decreases-loop-i : goal.decreases-loop-i
+decreases-loop-i l = length l.s - l.i
