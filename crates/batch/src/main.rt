@@ -3,7 +3,9 @@
 #![tactic(auto)]
 
 use decimals::Numeral;
-use libc::{STDIN_FILENO, STDOUT_FILENO};
+use programs::Out;
+
+const STDIN_FILENO: i32 = 0;
 
 // More cases than anyone keeps.
 const MOST_CASES: usize = 1000000;
@@ -32,59 +34,70 @@ fn number_behind(behind: u8) -> Numeral {
 }
 
 // (a) in a table with so many rows, and with some numbers behind them that are no row.
-fn tree(source: &[u8], room: usize, table: &mut [u64]) {
+fn tree(to: &mut Out, source: &[u8], room: usize, table: &mut [u64]) {
     if room < table.len() / rows::WIDTH {
         print::answer_tree(
+            to,
             source,
             &mut table[..room * rows::WIDTH + source.len() % rows::WIDTH],
             false,
         );
     } else {
-        print::answer_tree(source, table, false);
+        print::answer_tree(to, source, table, false);
     }
 }
 
 // (b), likewise.
-fn expression(source: &[u8], room: usize, table: &mut [u64]) {
+fn expression(to: &mut Out, source: &[u8], room: usize, table: &mut [u64]) {
     if room < table.len() / rows::WIDTH {
         print::answer_expression(
+            to,
             source,
             &mut table[..room * rows::WIDTH + source.len() % rows::WIDTH],
             false,
         );
     } else {
-        print::answer_expression(source, table, false);
+        print::answer_expression(to, source, table, false);
     }
 }
 
 // The leaf that holds a byte, of the table whose numbers stand in a text.
-fn node(text: &[u8], position: u64, table: &mut [u64]) {
+fn node(to: &mut Out, text: &[u8], position: u64, table: &mut [u64]) {
     let count = decimals::numbers(text, table);
     if count <= table.len() {
-        print::answer_node(&table[..count], position);
+        print::answer_node(to, &table[..count], position);
     }
 }
 
 // A constant, in a table with so many rows, and with some numbers behind them that are no row.
-fn constant(source: &[u8], number: u64, room: usize, table: &mut [u64], list: &mut [u64]) {
+fn constant(
+    to: &mut Out,
+    source: &[u8],
+    number: u64,
+    room: usize,
+    table: &mut [u64],
+    list: &mut [u64],
+) {
     if room < table.len() / rows::WIDTH {
         print::constant::answer(
+            to,
             source,
             number,
             &mut table[..room * rows::WIDTH + source.len() % rows::WIDTH],
             list,
         );
     } else {
-        print::constant::answer(source, number, table, list);
+        print::constant::answer(to, source, number, table, list);
     }
 }
 
 // The same with a list of so many instructions.
-fn listed(source: &[u8], line: Line, table: &mut [u64]) {
+fn listed(to: &mut Out, source: &[u8], line: Line, table: &mut [u64]) {
     let mut list = instructions();
     let room = line.second as usize;
     if room < machine::MOST {
         constant(
+            to,
             source,
             line.first,
             line.rows as usize,
@@ -92,41 +105,47 @@ fn listed(source: &[u8], line: Line, table: &mut [u64]) {
             &mut list[..room * machine::WIDTH + source.len() % machine::WIDTH],
         );
     } else {
-        constant(source, line.first, line.rows as usize, table, &mut list);
+        constant(to, source, line.first, line.rows as usize, table, &mut list);
     }
 }
 
 // A broken source, in a table with so many rows, and with some numbers behind them that are no row.
-fn salvaged(source: &mut [u8], room: usize, table: &mut [u64], ranges: &mut [u64]) {
+fn salvaged(to: &mut Out, source: &mut [u8], room: usize, table: &mut [u64], ranges: &mut [u64]) {
     if room < table.len() / rows::WIDTH {
         let behind = source.len() % rows::WIDTH;
-        print::answer_salvage(source, &mut table[..room * rows::WIDTH + behind], ranges);
+        print::answer_salvage(
+            to,
+            source,
+            &mut table[..room * rows::WIDTH + behind],
+            ranges,
+        );
     } else {
-        print::answer_salvage(source, table, ranges);
+        print::answer_salvage(to, source, table, ranges);
     }
 }
 
 // The same with so many ranges.
-fn ranged(source: &mut [u8], line: Line, table: &mut [u64]) {
+fn ranged(to: &mut Out, source: &mut [u8], line: Line, table: &mut [u64]) {
     let mut ranges = case_ranges();
     let room = line.second as usize;
     if room < MOST_RANGES {
         let behind = source.len() % salvage::WIDTH;
         salvaged(
+            to,
             source,
             line.first as usize,
             table,
             &mut ranges[..room * salvage::WIDTH + behind],
         );
     } else {
-        salvaged(source, line.first as usize, table, &mut ranges);
+        salvaged(to, source, line.first as usize, table, &mut ranges);
     }
 }
 
 // The print of a source, in a text of so many bytes.
-fn printed(source: &[u8], room: usize, table: &mut [u64]) {
+fn printed(to: &mut Out, source: &[u8], room: usize, table: &mut [u64]) {
     let mut plan = case_plan();
-    print::answer_print(source, table, &mut plan, room);
+    print::answer_print(to, source, table, &mut plan, room);
 }
 
 // The numbers behind a case's length: the room, the position or the constant's number; the room of its list or its ranges; that of a constant's rows.
@@ -140,24 +159,24 @@ struct Line {
 // Entries: `a` source to tree, `b` to one expression, `c` to token list, `e` a string token decoded, `f` the number of a float,
 // `k` a constant, `n` the leaf that holds a byte, `p` the print of a source, `s` a broken source salvaged, `t` a file checked, `w` the file
 // of a source.
-fn answer(entry: u8, source: &mut [u8], line: Line, table: &mut [u64]) {
+fn answer(to: &mut Out, entry: u8, source: &mut [u8], line: Line, table: &mut [u64]) {
     let room = line.first as usize;
     match entry {
-        b'a' => tree(source, room, table),
-        b'b' => expression(source, room, table),
+        b'a' => tree(to, source, room, table),
+        b'b' => expression(to, source, room, table),
         b'c' => {
-            print::answer_tokens(source, room, false);
+            print::answer_tokens(to, source, room, false);
         }
-        b'e' => print::answer_decode(source, room),
-        b'f' => print::answer_float(source),
-        b'k' => listed(source, line, table),
-        b'n' => node(source, line.first, table),
-        b'p' => printed(source, room, table),
-        b's' => ranged(source, line, table),
+        b'e' => print::answer_decode(to, source, room),
+        b'f' => print::answer_float(to, source),
+        b'k' => listed(to, source, line, table),
+        b'n' => node(to, source, line.first, table),
+        b'p' => printed(to, source, room, table),
+        b's' => ranged(to, source, line, table),
         b't' => {
-            print::answer_check(source, table);
+            print::answer_check(to, source, table);
         }
-        b'w' => print::answer_write(source, table, room),
+        b'w' => print::answer_write(to, source, table, room),
         _ => {}
     }
 }
@@ -174,7 +193,7 @@ fn rest_of_line(behind: u8) -> Line {
 }
 
 // Answers the next case, if there is one and the buffer holds it.
-fn case(buffer: &mut [u8], table: &mut [u64]) -> bool {
+fn case(to: &mut Out, buffer: &mut [u8], table: &mut [u64]) -> bool {
     let entry = decimals::next_byte();
     if entry == b'\n' {
         return false;
@@ -190,15 +209,15 @@ fn case(buffer: &mut [u8], table: &mut [u64]) -> bool {
     if count < length {
         return false;
     }
-    answer(entry, &mut buffer[..length], line, table);
-    io::write_all(STDOUT_FILENO, b"\n");
+    answer(to, entry, &mut buffer[..length], line, table);
+    to.say(b"\n");
     true
 }
 
-fn answer_all(buffer: &mut [u8], table: &mut [u64]) {
+fn answer_all(to: &mut Out, buffer: &mut [u8], table: &mut [u64]) {
     let mut i = 0;
     while i < MOST_CASES {
-        let more = case(buffer, table);
+        let more = case(to, buffer, table);
         if !more {
             return;
         }
@@ -231,8 +250,9 @@ fn case_buffer() -> [u8; MOST_BYTES] {
     [0; MOST_BYTES]
 }
 
-fn main() {
+fn main(rt: HostRuntime) {
     let mut buffer = case_buffer();
     let mut table = case_table();
-    answer_all(&mut buffer, &mut table);
+    let mut out = Out::new(rt.stdout());
+    answer_all(&mut out, &mut buffer, &mut table);
 }

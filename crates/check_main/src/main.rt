@@ -3,9 +3,15 @@
 #![tactic(auto)]
 
 use chars::{Answer, refusal};
-use libc::{STDERR_FILENO, STDIN_FILENO, STDOUT_FILENO};
 use messages::text;
+use programs::Out;
 use reader::entries;
+use std::alloc::Global;
+use std::fs;
+use std::io::{Error, ErrorKind, Read};
+use std::rt::{Env, Files};
+
+const STDERR_FILENO: i32 = 2;
 
 // How many files were accepted, refused and not read, and whether everything could be written.
 #[derive(Clone, Copy)]
@@ -37,110 +43,181 @@ fn added(t: Tally, o: Outcome) -> Tally {
 }
 
 // The first bytes of a buffer.
-fn write(out: &[u8], count: usize) -> bool {
+fn write(to: &mut Out, out: &[u8], count: usize) -> bool {
     if count <= out.len() {
-        return io::write_all(STDOUT_FILENO, &out[..count]);
+        to.say(&out[..count]);
+        return to.written().is_ok();
     }
     false
 }
 
 // An outcome, if what says so could be written.
-fn said(out: &[u8], count: usize, o: Outcome) -> Outcome {
-    if write(out, count) {
+fn said(alloc: Global, to: &mut Out, out: &[u8], count: usize, o: Outcome) -> Outcome {
+    if write(to, out, count) {
         return o;
     }
-    os::fail(b"standard output");
+    if let Err(why) = to.written() {
+        programs::fail(alloc, b"standard output", &why);
+    }
     Outcome::Unwritten
 }
 
 // A file without a refusal: a line of JSON, and nothing as text.
-fn plain(out: &mut [u8], json: bool, name: &[u8], status: &[u8], o: Outcome) -> Outcome {
+fn plain(
+    alloc: Global,
+    to: &mut Out,
+    out: &mut [u8],
+    json: bool,
+    name: &[u8],
+    status: &[u8],
+    o: Outcome,
+) -> Outcome {
     if json {
         let head = messages::json_head(out, name, status);
         let end = text::raw(out, head, b"}\n");
-        return said(out, end, o);
+        return said(alloc, to, out, end, o);
     }
     o
 }
 
-fn refused(out: &mut [u8], json: bool, name: &[u8], s: &[u8], a: Answer) -> Outcome {
+fn refused(
+    alloc: Global,
+    to: &mut Out,
+    out: &mut [u8],
+    json: bool,
+    name: &[u8],
+    s: &[u8],
+    a: Answer,
+) -> Outcome {
     let mut room = io::large_buffer();
     if json {
         let end = messages::json(name, s, a, &mut room, out);
-        return said(out, end, Outcome::Refused);
+        return said(alloc, to, out, end, Outcome::Refused);
     }
     let end = messages::report(name, s, a, &mut room, out);
-    said(out, end, Outcome::Refused)
+    said(alloc, to, out, end, Outcome::Refused)
 }
 
 // The reader has no room for any row: so a source is accepted if it says nothing else.
-fn checked(out: &mut [u8], json: bool, name: &[u8], s: &[u8]) -> Outcome {
+fn checked(
+    alloc: Global,
+    to: &mut Out,
+    out: &mut [u8],
+    json: bool,
+    name: &[u8],
+    s: &[u8],
+) -> Outcome {
     let mut none = [0u64; 1];
     let a = entries::tree(s, &mut none);
     if a.number == refusal::NO_ROOM {
-        return plain(out, json, name, b"accepted", Outcome::Accepted);
+        return plain(alloc, to, out, json, name, b"accepted", Outcome::Accepted);
     }
-    refused(out, json, name, s, a)
+    refused(alloc, to, out, json, name, s, a)
 }
 
-fn unread(out: &mut [u8], json: bool, name: &[u8]) -> Outcome {
-    os::fail(name);
-    plain(out, json, name, b"unreadable", Outcome::Unread)
+fn unread(
+    alloc: Global,
+    to: &mut Out,
+    out: &mut [u8],
+    json: bool,
+    name: &[u8],
+    why: &Error,
+) -> Outcome {
+    programs::fail(alloc, name, why);
+    plain(alloc, to, out, json, name, b"unreadable", Outcome::Unread)
 }
 
-// A file that is open, with no error known.
-fn opened(out: &mut [u8], json: bool, name: &[u8], fd: i32) -> Outcome {
+// A file that is open.
+fn opened(
+    alloc: Global,
+    to: &mut Out,
+    out: &mut [u8],
+    json: bool,
+    name: &[u8],
+    input: &mut impl Read,
+) -> Outcome {
     let mut source = io::large_buffer();
-    let length = io::read_full(fd, &mut source);
-    if os::errno() != 0 {
-        return unread(out, json, name);
+    match programs::read(input, &mut source) {
+        Ok(length) => checked(alloc, to, out, json, name, &source[..length]),
+        Err(why) => unread(alloc, to, out, json, name, &why),
     }
-    checked(out, json, name, &source[..length])
 }
 
-fn named(out: &mut [u8], json: bool, name: &[u8]) -> Outcome {
-    let fd = os::open_read(name);
-    if fd < 0 {
-        return unread(out, json, name);
+// A file by its name, which has to be UTF-8.
+fn open<R: Files>(rt: &R, name: &[u8]) -> Result<R::File, Error> {
+    match std::str::from_utf8(name) {
+        Ok(path) => fs::open(rt, path),
+        Err(_) => Err(Error::from(ErrorKind::InvalidFilename)),
     }
-    let o = opened(out, json, name, fd);
-    libc::close(fd);
-    o
 }
 
-fn other(out: &mut [u8], json: bool, name: &[u8]) -> Outcome {
+fn named<R: Files + AllocGlobal>(
+    rt: &R,
+    to: &mut Out,
+    out: &mut [u8],
+    json: bool,
+    name: &[u8],
+) -> Outcome {
+    match open(rt, name) {
+        Ok(mut input) => opened(rt.alloc(), to, out, json, name, &mut input),
+        Err(why) => unread(rt.alloc(), to, out, json, name, &why),
+    }
+}
+
+fn other(alloc: Global, to: &mut Out, out: &mut [u8], json: bool, name: &[u8]) -> Outcome {
     io::write_all(STDERR_FILENO, name);
     io::write_all(STDERR_FILENO, b": no regular file and no pipe\n");
-    plain(out, json, name, b"unreadable", Outcome::Unread)
+    plain(alloc, to, out, json, name, b"unreadable", Outcome::Unread)
 }
 
 // A file by the letter before its name.
-fn file(out: &mut [u8], json: bool, letter: u8, name: &[u8]) -> Outcome {
+fn file<R: Files + Input + AllocGlobal>(
+    rt: &R,
+    to: &mut Out,
+    out: &mut [u8],
+    json: bool,
+    letter: u8,
+    name: &[u8],
+) -> Outcome {
     if letter == b'-' {
-        return opened(out, json, name, STDIN_FILENO);
+        return opened(rt.alloc(), to, out, json, name, &mut rt.reader());
     }
     if letter == b'o' {
-        return other(out, json, name);
+        return other(rt.alloc(), to, out, json, name);
     }
-    named(out, json, name)
+    named(rt, to, out, json, name)
 }
 
 // The argument with a number.
-fn argument(json: bool, i: usize) -> Outcome {
+fn argument<R: Env + Files + Input + AllocGlobal>(
+    rt: &R,
+    to: &mut Out,
+    json: bool,
+    i: usize,
+) -> Outcome {
     let mut out = io::large_buffer();
     let mut name = io::buffer();
-    let length = os::arg(i, &mut name);
-    if os::errno() != 0 {
-        return unread(&mut out, json, b"a name");
-    }
+    let length = match rt.arg(i, &mut name) {
+        Ok(n) => n,
+        Err(why) => {
+            let why = programs::lacking(why);
+            return unread(rt.alloc(), to, &mut out, json, b"a name", &why);
+        }
+    };
     if length < 1 {
-        return unread(&mut out, json, b"");
+        let why = Error::from_raw_os_error(0);
+        return unread(rt.alloc(), to, &mut out, json, b"", &why);
     }
-    file(&mut out, json, name[0], &name[1..length])
+    file(rt, to, &mut out, json, name[0], &name[1..length])
 }
 
 // The arguments behind the first.
-fn arguments(json: bool, count: usize) -> Tally {
+fn arguments<R: Env + Files + Input + AllocGlobal>(
+    rt: &R,
+    to: &mut Out,
+    json: bool,
+    count: usize,
+) -> Tally {
     let mut tally = Tally {
         accepted: 0,
         refused: 0,
@@ -149,7 +226,7 @@ fn arguments(json: bool, count: usize) -> Tally {
     };
     let mut i = 2;
     while i < count {
-        let o = argument(json, i);
+        let o = argument(rt, to, json, i);
         tally = added(tally, o);
         i += 1;
     }
@@ -162,13 +239,13 @@ fn figure(out: &mut [u8], at: usize, n: u64, what: &[u8]) -> usize {
 }
 
 // How many there were of each kind.
-fn summary(t: Tally, count: usize) -> bool {
+fn summary(to: &mut Out, t: Tally, count: usize) -> bool {
     let mut out = io::buffer();
     let mut n = figure(&mut out, 0, count as u64, b" files: ");
     n = figure(&mut out, n, t.accepted, b" accepted, ");
     n = figure(&mut out, n, t.refused, b" refused, ");
     n = figure(&mut out, n, t.unread, b" unreadable\n");
-    write(&out, n)
+    write(to, &out, n)
 }
 
 fn status(t: Tally) -> u8 {
@@ -181,12 +258,14 @@ fn status(t: Tally) -> u8 {
     programs::ACCEPTED
 }
 
-fn main() {
-    let json = programs::asked() == b'j';
-    let count = os::arg_count();
-    let mut tally = arguments(json, count);
+fn main(rt: HostRuntime) {
+    let json = programs::asked(&rt) == b'j';
+    let count = programs::arguments(&rt);
+    let mut to = Out::new(rt.stdout());
+    let mut tally = arguments(&rt, &mut to, json, count);
     if (3 < count) & !json {
-        tally.written = tally.written & summary(tally, std::num::wrapping_sub_usize(count, 2));
+        let written = summary(&mut to, tally, count - 2);
+        tally.written = tally.written & written;
     }
-    programs::status(status(tally));
+    programs::status(&rt, status(tally));
 }

@@ -3,7 +3,7 @@
 
 ghost use Rattle.std.specs.Prelude.{◌≡◌, ◌<◌, length};
 
-use libc::STDIN_FILENO;
+const STDIN_FILENO: i32 = 0;
 
 // No number of 64 bits has more digits.
 const MOST_DIGITS: usize = 20;

@@ -1,16 +1,16 @@
 // Prints the rows of the one expression on standard input, or its refusal; with the argument `names` as a tree with names.
 #![tactic(auto)]
 
-use libc::STDIN_FILENO;
+use programs::Out;
 
-fn main() {
-    let named = programs::asked() == b'n';
+fn main(rt: HostRuntime) {
+    let named = programs::asked(&rt) == b'n';
     let mut buffer = io::large_buffer();
-    let length = io::read_full(STDIN_FILENO, &mut buffer);
-    if programs::unread() {
+    let Some(length) = programs::source(&rt, &mut buffer) else {
         return;
-    }
+    };
     let mut table = programs::rows_table();
-    let accepted = print::answer_expression(&buffer[..length], &mut table, named);
-    programs::end(accepted);
+    let mut out = Out::new(rt.stdout());
+    let accepted = print::answer_expression(&mut out, &buffer[..length], &mut table, named);
+    programs::end(&rt, accepted, out.written());
 }

@@ -2,11 +2,12 @@
 #![tactic(auto)]
 
 use chars::{Answer, refusal};
-use libc::{STDERR_FILENO, STDIN_FILENO, STDOUT_FILENO};
 use messages::text;
 use messages::text::Form;
 use reader::entries;
 use setter::entries::Printed;
+use std::io::{Error, Stderr, Stdout, Write};
+use std::rt::Env;
 
 // Rows that there is room for: 8 MiB of stack hold both tables. Only a source with long sums in f-strings has more rows and a print that isn't too long.
 const MOST_ROWS: usize = 65536;
@@ -20,11 +21,11 @@ fn plan_table() -> [u64; MOST_ROWS * setter::PLAN_WIDTH] {
 }
 
 // The first bytes of a buffer.
-fn write(fd: i32, out: &[u8], count: usize) -> bool {
+fn write(to: &mut impl Write, out: &[u8], count: usize) -> Result<(), Error> {
     if count <= out.len() {
-        return io::write_all(fd, &out[..count]);
+        return to.write_all(&out[..count]);
     }
-    false
+    Ok(())
 }
 
 // Where in the print a limit is passed.
@@ -78,49 +79,66 @@ fn read(s: &[u8]) -> Answer {
     entries::old_tree(s, &mut none)
 }
 
-fn refused(name: &[u8], s: &[u8], a: Printed) {
+fn refused(err: &mut Stderr, name: &[u8], s: &[u8], a: Printed) -> Result<(), Error> {
     let mut room = io::large_buffer();
     let mut out = io::large_buffer();
     let r = read(s);
     if r.number == refusal::NO_ROOM {
         let n = unprinted(&mut out, name, a);
-        write(STDERR_FILENO, &out, n);
-        return;
+        return write(err, &out, n);
     }
     let n = messages::report(name, s, r, &mut room, &mut out);
-    write(STDERR_FILENO, &out, n);
+    write(err, &out, n)
 }
 
-fn printed(name: &[u8], s: &[u8], table: &mut [u64], plan: &mut [u64], text: &mut [u8]) {
+fn printed(
+    rt: &(impl Env + AllocGlobal),
+    out: &mut Stdout,
+    err: &mut Stderr,
+    name: &[u8],
+    s: &[u8],
+    table: &mut [u64],
+    plan: &mut [u64],
+    text: &mut [u8],
+) {
     let a = setter::entries::print_tree(s, table, plan, text);
     if a.number == refusal::NONE {
-        write(STDOUT_FILENO, text, a.count);
-        programs::end(true);
+        let said = write(out, text, a.count);
+        programs::end(rt, true, said);
         return;
     }
-    refused(name, s, a);
-    programs::end(false);
+    let said = refused(err, name, s, a);
+    programs::end(rt, false, said);
 }
 
-fn named(name: &[u8]) {
+fn named(rt: &(impl Env + Input + AllocGlobal), out: &mut Stdout, err: &mut Stderr, name: &[u8]) {
     let mut source = io::large_buffer();
-    let length = io::read_full(STDIN_FILENO, &mut source);
-    if programs::unread() {
+    let Some(length) = programs::source(rt, &mut source) else {
         return;
-    }
+    };
     let mut table = rows_table();
     let mut plan = plan_table();
     let mut text = io::large_buffer();
-    printed(name, &source[..length], &mut table, &mut plan, &mut text);
+    printed(
+        rt,
+        out,
+        err,
+        name,
+        &source[..length],
+        &mut table,
+        &mut plan,
+        &mut text,
+    );
 }
 
-fn main() {
+fn main(rt: HostRuntime) {
     let mut name = io::buffer();
-    let length = os::arg(1, &mut name);
-    if os::errno() != 0 {
-        os::fail(b"a name");
-        programs::status(programs::FAILED);
-        return;
+    match rt.arg(1, &mut name) {
+        Ok(length) => {
+            let mut out = rt.stdout();
+            let mut err = rt.stderr();
+            named(&rt, &mut out, &mut err, &name[..length]);
+        }
+        Err(why) => programs::unnamed(&rt, why),
     }
-    named(&name[..length]);
 }

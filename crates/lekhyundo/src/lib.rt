@@ -7,7 +7,7 @@ ghost use Rattle.tokens.specs.declared.Refusal.{Refusal};
 ghost use Rattle.tokens.specs.declared.Step.TheVariants.{Refused};
 ghost use Rattle.tokens.specs.Tokens.{step_at, step_numbers, answer_of};
 ghost use Rattle.list.specs.Filled.{filled};
-ghost use Rattle.strings.specs.Strings.{answer_of as decodeAnswer, content_of};
+ghost use Rattle.strings.specs.Strings.{answer_of as decode_answer, content_of};
 ghost use Rattle.entry.specs.Entries.{name_text};
 ghost use Rattle.values.specs.Literals.{literal_at, literal_numbers};
 ghost use Rattle.lekhyundo.specs.Numbers.{answer_numbers};
@@ -93,7 +93,7 @@ pub extern "C" fn lekhyundo_step(s: &[u8], at: usize, out: &mut [u64])
 // (e): a string token decoded into the lent bytes; number, start, end, count.
 #[unsafe(no_mangle)]
 pub extern "C" fn lekhyundo_decode(s: &[u8], out: &mut [u8], answer: &mut [u64])
-    ensures answer_after { answer.new ≡ sets answer.old 0 (answer_numbers (decodeAnswer s.now (length out.old))) }
+    ensures answer_after { answer.new ≡ sets answer.old 0 (answer_numbers (decode_answer s.now (length out.old))) }
     ensures out_after { out.new ≡ content_of s.now (length out.old) }
 {
     let a = strings::decode(s, out);

@@ -1,5 +1,5 @@
 // What a refusal says, in the filter author's words: a sentence for each number and, where the place tells, for each cause.
-use super::{text, values, words};
+use super::{next_words, text, value_causes};
 use chars::{Answer, refusal};
 use tokens::{Cursor, Step, word};
 
@@ -41,10 +41,10 @@ fn word_at(s: &[u8], at: usize) -> u64 {
 fn quoted(out: &mut [u8], at: usize, s: &[u8], start: usize, end: usize) -> usize {
     let b = chars::byte_at(s, start);
     if (b == QUOTE) | (b == APOSTROPHE) {
-        return values::told(out, at, s, start, end);
+        return value_causes::told(out, at, s, start, end);
     }
     let mut n = text::put(out, at, b'\'');
-    n = values::told(out, n, s, start, end);
+    n = value_causes::told(out, n, s, start, end);
     text::put(out, n, b'\'')
 }
 
@@ -136,10 +136,10 @@ fn is_keyword(w: u64) -> bool {
 fn unusable(out: &mut [u8], at: usize, s: &[u8], a: Answer, flags: &[u8]) -> usize {
     let n = quoted(out, at, s, a.start, a.end);
     let w = word_at(s, a.start);
-    if words::passed(flags, words::NAMES) & is_keyword(w) {
+    if next_words::passed(flags, next_words::NAMES) & is_keyword(w) {
         return text::raw(out, n, b" is a keyword and can't be a name");
     }
-    if words::passed(flags, words::CONST)
+    if next_words::passed(flags, next_words::CONST)
         & ((w == word::RECORD) | (w == word::ENUM) | (w == word::TEST))
     {
         return text::raw(out, n, b" declares nothing in a filter file: remove it");
@@ -180,10 +180,10 @@ fn too_deep(out: &mut [u8], at: usize, s: &[u8], start: usize) -> usize {
 
 // 11: an f-string's text has no end, or the file ends where more has to stand. Behind a text that has no end a sign that begins no token is text.
 fn ends_early(out: &mut [u8], at: usize, room: &mut [u8], count: usize) -> usize {
-    if !words::tried(room, count, b"$", 0, 1) {
+    if !next_words::tried(room, count, b"$", 0, 1) {
         return text::raw(out, at, b"the file ends too early");
     }
-    if words::tried(room, count, b"\" $", 0, 3) {
+    if next_words::tried(room, count, b"\" $", 0, 3) {
         return text::raw(out, at, b"\\u in an f-string needs a '{' after it");
     }
     text::raw(out, at, b"an f-string has no closing '\"'")
@@ -219,7 +219,7 @@ pub fn message(
             b"an f-string is more than a token: a token list can't hold it",
         ),
         refusal::UNUSABLE => unusable(out, at, s, a, flags),
-        refusal::VALUELESS => values::valueless(out, at, s, start, a.end),
+        refusal::VALUELESS => value_causes::valueless(out, at, s, start, a.end),
         refusal::NO_PATH => text::raw(
             out,
             at,

@@ -2,15 +2,15 @@
 #![tactic(auto)]
 
 use chars::{Answer, refusal};
+use next_words::Items;
 use text::Form;
-use words::Items;
 
 mod causes;
+mod next_words;
 pub mod places;
 pub mod text;
 mod utf8;
-mod values;
-mod words;
+mod value_causes;
 
 // Whether words could stand at a refusal's place: not where a text has no end, behind which a sign that begins no token is text.
 fn asks(a: Answer, room: &mut [u8], count: usize) -> bool {
@@ -18,7 +18,7 @@ fn asks(a: Answer, room: &mut [u8], count: usize) -> bool {
         return true;
     }
     if a.number == refusal::ENDS_EARLY {
-        return !words::tried(room, count, b"$", 0, 1);
+        return !next_words::tried(room, count, b"$", 0, 1);
     }
     false
 }
@@ -33,7 +33,7 @@ fn expected(
     json: bool,
 ) -> Items {
     if asks(a, room, count) {
-        return words::expected(room, count, flags, list, json);
+        return next_words::expected(room, count, flags, list, json);
     }
     Items { end: 0, count: 0 }
 }
@@ -104,7 +104,7 @@ pub fn report_from(
     room: &mut [u8],
     out: &mut [u8],
 ) -> usize {
-    let mut flags = [0u8; words::COUNT];
+    let mut flags = [0u8; next_words::COUNT];
     let mut list = io::buffer();
     reported(name, s, from, a, room, &mut flags, &mut list, out)
 }
@@ -185,7 +185,7 @@ fn json_reported(
 
 // A refusal as a line of JSON.
 pub fn json(name: &[u8], s: &[u8], a: Answer, room: &mut [u8], out: &mut [u8]) -> usize {
-    let mut flags = [0u8; words::COUNT];
+    let mut flags = [0u8; next_words::COUNT];
     let mut list = io::buffer();
     let mut said = io::buffer();
     json_reported(name, s, a, room, &mut flags, &mut list, &mut said, out)

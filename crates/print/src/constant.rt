@@ -2,57 +2,57 @@
 use super::{head, number};
 use chars::{Answer, refusal};
 use constants::Constant;
-use libc::STDOUT_FILENO;
 use machine::{Named, Value};
+use programs::Out;
 use reader::entries;
 use rows::kind;
 
 // A whole number of a type, with its sign.
-fn whole(ty: u64, a: u64) {
+fn whole(to: &mut Out, ty: u64, a: u64) {
     let named = machine::integer_of(ty);
     let Named::Of(t) = named else {
         return;
     };
     if wholes::negative(t, a) {
-        io::write_all(STDOUT_FILENO, b"-");
+        to.say(b"-");
     }
-    io::print_decimal(STDOUT_FILENO, wholes::magnitude(t, a));
+    to.decimal(wholes::magnitude(t, a));
 }
 
 // A constant's value behind the word for its kind; a float by its bits, a truth value as 0 or 1.
-fn value_line(ty: u64, v: Value) {
+fn value_line(to: &mut Out, ty: u64, v: Value) {
     let bits = machine::bits_of(ty, v);
     match v {
         Value::Whole(a) => {
-            io::write_all(STDOUT_FILENO, b"accepted integer ");
-            whole(ty, a);
+            to.say(b"accepted integer ");
+            whole(to, ty, a);
         }
         Value::Float(_) => {
-            io::write_all(STDOUT_FILENO, b"accepted float ");
-            float_bits(bits);
+            to.say(b"accepted float ");
+            float_bits(to, bits);
         }
         Value::Truth(_) => {
-            io::write_all(STDOUT_FILENO, b"accepted bool ");
-            io::print_decimal(STDOUT_FILENO, bits);
+            to.say(b"accepted bool ");
+            to.decimal(bits);
         }
     }
-    io::write_all(STDOUT_FILENO, b"\n");
+    to.say(b"\n");
 }
 
-fn float_bits(bits: u64) {
+fn float_bits(to: &mut Out, bits: u64) {
     if bits == machine::NAN {
-        io::write_all(STDOUT_FILENO, b"nan");
+        to.say(b"nan");
     } else {
-        io::print_decimal(STDOUT_FILENO, bits);
+        to.decimal(bits);
     }
 }
 
 // C-18: the value of a source's constant with a number, or the refusal.
-pub fn answer(s: &[u8], number: u64, table: &mut [u64], list: &mut [u64]) {
+pub fn answer(to: &mut Out, s: &[u8], number: u64, table: &mut [u64], list: &mut [u64]) {
     let c = constants::evaluate(s, number, table, list);
     match c {
-        Constant::Is(v, ty, _) => value_line(ty, v),
-        Constant::Refused(a) => head(a),
+        Constant::Is(v, ty, _) => value_line(to, ty, v),
+        Constant::Refused(a) => head(to, a),
     }
 }
 
@@ -98,36 +98,36 @@ pub fn rows_before(row: usize, many: u64) -> usize {
 }
 
 // One byte, and a blank for a byte that isn't shown.
-fn byte(b: u8) {
+fn byte(to: &mut Out, b: u8) {
     if b < 33 {
-        io::write_all(STDOUT_FILENO, b" ");
+        to.say(b" ");
     } else {
         let one = [b; 1];
-        io::write_all(STDOUT_FILENO, &one);
+        to.say(&one);
     }
 }
 
 // A row's text on one line.
-pub fn row_text(s: &[u8], table: &[u64], row: usize) {
+pub fn row_text(to: &mut Out, s: &[u8], table: &[u64], row: usize) {
     let end = cell(table, row, END) as usize;
     let mut i = cell(table, row, START) as usize;
     while i < end {
         if i < s.len() {
-            byte(s[i]);
+            byte(to, s[i]);
         }
         i += 1;
     }
 }
 
 // The name and the type of a constant: its expression's rows stand before its own, and before those the type's, before those the name's.
-fn name_and_type(s: &[u8], table: &[u64], row: usize) {
+fn name_and_type(to: &mut Out, s: &[u8], table: &[u64], row: usize) {
     let expr = rows_before(row, 1);
     let ty = rows_before(expr, cell(table, expr, SIZE));
     let name = rows_before(ty, cell(table, ty, SIZE));
-    row_text(s, table, name);
-    io::write_all(STDOUT_FILENO, b" ");
-    row_text(s, table, ty);
-    io::write_all(STDOUT_FILENO, b" ");
+    row_text(to, s, table, name);
+    to.say(b" ");
+    row_text(to, s, table, ty);
+    to.say(b" ");
 }
 
 // No source has as many bytes.
@@ -168,15 +168,15 @@ fn newline(s: &[u8], i: usize) -> bool {
 }
 
 // `refused NUMBER at line LINE, column COLUMN`.
-fn refusal_line(s: &[u8], a: Answer) {
-    io::write_all(STDOUT_FILENO, b"refused");
-    number(a.number);
+fn refusal_line(to: &mut Out, s: &[u8], a: Answer) {
+    to.say(b"refused");
+    number(to, a.number);
     let spot = spot_of(s, a.start);
-    io::write_all(STDOUT_FILENO, b" at line");
-    number(spot.line);
-    io::write_all(STDOUT_FILENO, b", column");
-    number(spot.column);
-    io::write_all(STDOUT_FILENO, b"\n");
+    to.say(b" at line");
+    number(to, spot.line);
+    to.say(b", column");
+    number(to, spot.column);
+    to.say(b"\n");
 }
 
 // The bits of an f64: its sign's, the exponent's field, and 13 hex digits below.
@@ -189,66 +189,66 @@ const INFINITE: u64 = 2047;
 const BIAS: u64 = 1023;
 
 // The power of two of a field, which is one more than it says where the field is 0.
-fn exponent(field: u64) {
+fn exponent(to: &mut Out, field: u64) {
     if field == 0 {
-        io::write_all(STDOUT_FILENO, b"p-1022");
+        to.say(b"p-1022");
         return;
     }
-    io::write_all(STDOUT_FILENO, b"p");
+    to.say(b"p");
     if field < BIAS {
-        io::write_all(STDOUT_FILENO, b"-");
-        io::print_decimal(STDOUT_FILENO, BIAS - field);
+        to.say(b"-");
+        to.decimal(BIAS - field);
     } else {
-        io::print_decimal(STDOUT_FILENO, field - BIAS);
+        to.decimal(field - BIAS);
     }
 }
 
 // The float without its sign.
-fn amount(bits: u64) {
+fn amount(to: &mut Out, bits: u64) {
     let field = bits / UNIT;
     if bits == 0 {
-        io::write_all(STDOUT_FILENO, b"0");
+        to.say(b"0");
         return;
     }
     if INFINITE <= field {
-        io::write_all(STDOUT_FILENO, b"inf");
+        to.say(b"inf");
         return;
     }
     if field == 0 {
-        io::write_all(STDOUT_FILENO, b"0x0.");
+        to.say(b"0x0.");
     } else {
-        io::write_all(STDOUT_FILENO, b"0x1.");
+        to.say(b"0x1.");
     }
-    io::print_hex(STDOUT_FILENO, bits % UNIT, 13);
-    exponent(field);
+    to.hex(bits % UNIT, 13);
+    exponent(to, field);
 }
 
 // A float exactly: hex digits and a power of two, as C's strtod reads them.
-fn float_text(bits: u64) {
+fn float_text(to: &mut Out, bits: u64) {
     if bits == machine::NAN {
-        io::write_all(STDOUT_FILENO, b"nan");
+        to.say(b"nan");
         return;
     }
     if SIGN <= bits {
-        io::write_all(STDOUT_FILENO, b"-");
+        to.say(b"-");
     }
-    amount(bits % SIGN);
+    amount(to, bits % SIGN);
 }
 
 // A constant's value as a filter would have it, but for a float.
-fn value_text(ty: u64, v: Value) {
+fn value_text(to: &mut Out, ty: u64, v: Value) {
     match v {
-        Value::Whole(a) => whole(ty, a),
-        Value::Float(_) => float_text(machine::bits_of(ty, v)),
+        Value::Whole(a) => whole(to, ty, a),
+        Value::Float(_) => float_text(to, machine::bits_of(ty, v)),
         Value::Truth(b) => {
             if b {
-                io::write_all(STDOUT_FILENO, b"true");
+                to.say(b"true");
             } else {
-                io::write_all(STDOUT_FILENO, b"false");
+                to.say(b"false");
             }
         }
     }
-    io::write_all(STDOUT_FILENO, b"\n");
+    to.say(b"\n");
 }
 
 // How a constant was answered.
@@ -263,41 +263,48 @@ enum Next {
 }
 
 // A line for the constant with a number, whose row is known.
-fn constant_line(s: &[u8], number: u64, row: usize, table: &mut [u64], list: &mut [u64]) -> Next {
-    name_and_type(s, table, row);
+fn constant_line(
+    to: &mut Out,
+    s: &[u8],
+    number: u64,
+    row: usize,
+    table: &mut [u64],
+    list: &mut [u64],
+) -> Next {
+    name_and_type(to, s, table, row);
     let c = constants::evaluate(s, number, table, list);
     match c {
         Constant::Is(v, ty, _) => {
-            value_text(ty, v);
+            value_text(to, ty, v);
             Next::Accepted
         }
         Constant::Refused(a) => {
-            refusal_line(s, a);
+            refusal_line(to, s, a);
             Next::Refused
         }
     }
 }
 
 // A line for the constant with a number, where there is one; or that of the source's refusal.
-fn next_constant(s: &[u8], number: u64, table: &mut [u64], list: &mut [u64]) -> Next {
+fn next_constant(to: &mut Out, s: &[u8], number: u64, table: &mut [u64], list: &mut [u64]) -> Next {
     let a = entries::tree(s, table);
     if a.number != refusal::NONE {
-        refusal_line(s, a);
+        refusal_line(to, s, a);
         return Next::Unread;
     }
     let row = constant_row(table, a.count, number);
     if row == a.count {
         return Next::Missing;
     }
-    constant_line(s, number, row, table, list)
+    constant_line(to, s, number, row, table, list)
 }
 
 // C-18: a line for each constant of a source, its name, its type and its value or refusal; or the source's refusal. Whether nothing was refused.
-pub fn answer_all(s: &[u8], table: &mut [u64], list: &mut [u64]) -> bool {
+pub fn answer_all(to: &mut Out, s: &[u8], table: &mut [u64], list: &mut [u64]) -> bool {
     let mut fine = true;
     let mut i = 0;
     while i < MOST_BYTES {
-        let next = next_constant(s, i as u64, table, list);
+        let next = next_constant(to, s, i as u64, table, list);
         match next {
             Next::Accepted => {}
             Next::Refused => {

@@ -1,7 +1,7 @@
 // Rows and tokens by the names of their kinds; rows as a tree, each under its parent.
 use super::constant::{cell, row_text, rows_before};
 use super::number;
-use libc::STDOUT_FILENO;
+use programs::Out;
 use rows::kind;
 
 // The columns of a row that are used: where its span begins and ends, its detail and how many rows its subtree has.
@@ -19,128 +19,128 @@ const DEPTH: usize = 3;
 
 const LINK: usize = 4;
 
-fn say(t: &[u8]) {
-    io::write_all(STDOUT_FILENO, t);
+fn say(to: &mut Out, t: &[u8]) {
+    to.say(t);
 }
 
 // Names, types and literals.
-fn short_name(k: u64) {
+fn short_name(to: &mut Out, k: u64) {
     match k {
-        kind::NAME => say(b"name"),
-        kind::PATH => say(b"path"),
-        kind::NEVER => say(b"never type"),
-        kind::UNIT => say(b"unit type"),
-        kind::OPTION => say(b"optional type"),
-        kind::PATH_TYPE => say(b"path type"),
-        kind::RECORD_TYPE => say(b"record type"),
-        kind::TYPED_NAME => say(b"name with type"),
-        kind::INTEGER => say(b"integer"),
-        kind::FLOAT => say(b"float"),
-        kind::BOOL => say(b"bool"),
-        kind::ASN => say(b"AS number"),
-        kind::IPV4 => say(b"IPv4"),
-        kind::IPV6 => say(b"IPv6"),
-        kind::STRING => say(b"string"),
-        kind::CHAR => say(b"char"),
-        _ => say(b"row"),
+        kind::NAME => say(to, b"name"),
+        kind::PATH => say(to, b"path"),
+        kind::NEVER => say(to, b"never type"),
+        kind::UNIT => say(to, b"unit type"),
+        kind::OPTION => say(to, b"optional type"),
+        kind::PATH_TYPE => say(to, b"path type"),
+        kind::RECORD_TYPE => say(to, b"record type"),
+        kind::TYPED_NAME => say(to, b"name with type"),
+        kind::INTEGER => say(to, b"integer"),
+        kind::FLOAT => say(to, b"float"),
+        kind::BOOL => say(to, b"bool"),
+        kind::ASN => say(to, b"AS number"),
+        kind::IPV4 => say(to, b"IPv4"),
+        kind::IPV6 => say(to, b"IPv6"),
+        kind::STRING => say(to, b"string"),
+        kind::CHAR => say(to, b"char"),
+        _ => say(to, b"row"),
     }
 }
 
-fn expression_name(k: u64) {
+fn expression_name(to: &mut Out, k: u64) {
     match k {
-        kind::BINARY => say(b"binary"),
-        kind::NOT => say(b"not"),
-        kind::NEGATE => say(b"negate"),
-        kind::CALL => say(b"call"),
-        kind::ACCESS => say(b"access"),
-        kind::QUESTION => say(b"question"),
-        kind::ASSIGN => say(b"assign"),
-        kind::RETURN => say(b"return form"),
-        kind::IF => say(b"if"),
-        kind::WHILE => say(b"while"),
-        kind::FOR => say(b"for"),
-        kind::MATCH => say(b"match"),
-        kind::ARM => say(b"arm"),
-        kind::ANY => say(b"any"),
-        kind::VARIANT => say(b"variant"),
-        kind::BLOCK => say(b"block"),
-        kind::RECORD => say(b"record"),
-        kind::FIELD => say(b"field"),
-        _ => short_name(k),
+        kind::BINARY => say(to, b"binary"),
+        kind::NOT => say(to, b"not"),
+        kind::NEGATE => say(to, b"negate"),
+        kind::CALL => say(to, b"call"),
+        kind::ACCESS => say(to, b"access"),
+        kind::QUESTION => say(to, b"question"),
+        kind::ASSIGN => say(to, b"assign"),
+        kind::RETURN => say(to, b"return form"),
+        kind::IF => say(to, b"if"),
+        kind::WHILE => say(to, b"while"),
+        kind::FOR => say(to, b"for"),
+        kind::MATCH => say(to, b"match"),
+        kind::ARM => say(to, b"arm"),
+        kind::ANY => say(to, b"any"),
+        kind::VARIANT => say(to, b"variant"),
+        kind::BLOCK => say(to, b"block"),
+        kind::RECORD => say(to, b"record"),
+        kind::FIELD => say(to, b"field"),
+        _ => short_name(to, k),
     }
 }
 
-fn kind_name(k: u64) {
+fn kind_name(to: &mut Out, k: u64) {
     match k {
-        kind::LET => say(b"let"),
-        kind::IMPORT => say(b"import"),
-        kind::CONST => say(b"const"),
-        kind::FN => say(b"fn"),
-        kind::TEST => say(b"test"),
-        kind::TREE => say(b"tree"),
-        kind::IMPORT_PATH => say(b"import path"),
-        kind::FILTER => say(b"filter"),
-        kind::F_STRING => say(b"f-string"),
-        kind::TEXT => say(b"text"),
-        _ => expression_name(k),
+        kind::LET => say(to, b"let"),
+        kind::IMPORT => say(to, b"import"),
+        kind::CONST => say(to, b"const"),
+        kind::FN => say(to, b"fn"),
+        kind::TEST => say(to, b"test"),
+        kind::TREE => say(to, b"tree"),
+        kind::IMPORT_PATH => say(to, b"import path"),
+        kind::FILTER => say(to, b"filter"),
+        kind::F_STRING => say(to, b"f-string"),
+        kind::TEXT => say(to, b"text"),
+        _ => expression_name(to, k),
     }
 }
 
 // The sign of a binary row.
-fn operator(detail: u64) {
+fn operator(to: &mut Out, detail: u64) {
     match detail {
-        1 => say(b" ||"),
-        2 => say(b" &&"),
-        3 => say(b" =="),
-        4 => say(b" !="),
-        5 => say(b" <"),
-        6 => say(b" <="),
-        7 => say(b" >"),
-        8 => say(b" >="),
-        9 => say(b" +"),
-        10 => say(b" -"),
-        11 => say(b" *"),
-        12 => say(b" /"),
-        13 => say(b" %"),
+        1 => say(to, b" ||"),
+        2 => say(to, b" &&"),
+        3 => say(to, b" =="),
+        4 => say(to, b" !="),
+        5 => say(to, b" <"),
+        6 => say(to, b" <="),
+        7 => say(to, b" >"),
+        8 => say(to, b" >="),
+        9 => say(to, b" +"),
+        10 => say(to, b" -"),
+        11 => say(to, b" *"),
+        12 => say(to, b" /"),
+        13 => say(to, b" %"),
         _ => {}
     }
 }
 
-fn assignment(detail: u64) {
+fn assignment(to: &mut Out, detail: u64) {
     match detail {
-        0 => say(b" ="),
-        1 => say(b" +="),
-        2 => say(b" -="),
-        3 => say(b" *="),
-        4 => say(b" /="),
-        5 => say(b" %="),
+        0 => say(to, b" ="),
+        1 => say(to, b" +="),
+        2 => say(to, b" -="),
+        3 => say(to, b" *="),
+        4 => say(to, b" /="),
+        5 => say(to, b" %="),
         _ => {}
     }
 }
 
-fn return_word(detail: u64) {
+fn return_word(to: &mut Out, detail: u64) {
     match detail {
-        1 => say(b" return"),
-        2 => say(b" accept"),
-        3 => say(b" reject"),
+        1 => say(to, b" return"),
+        2 => say(to, b" accept"),
+        3 => say(to, b" reject"),
         _ => {}
     }
 }
 
 // A row's detail is 1 for `filter`, whose name stands there, and 2 for `filtermap`.
-fn filter_word(detail: u64) {
+fn filter_word(to: &mut Out, detail: u64) {
     if detail == 2 {
-        say(b"map");
+        say(to, b"map");
     }
 }
 
 // What the detail of a row that isn't a leaf says.
-fn detail_name(k: u64, detail: u64) {
+fn detail_name(to: &mut Out, k: u64, detail: u64) {
     match k {
-        kind::FILTER => filter_word(detail),
-        kind::BINARY => operator(detail),
-        kind::ASSIGN => assignment(detail),
-        kind::RETURN => return_word(detail),
+        kind::FILTER => filter_word(to, detail),
+        kind::BINARY => operator(to, detail),
+        kind::ASSIGN => assignment(to, detail),
+        kind::RETURN => return_word(to, detail),
         _ => {}
     }
 }
@@ -178,30 +178,30 @@ fn link_all(table: &mut [u64], count: usize) {
     }
 }
 
-fn indent(depth: u64) {
+fn indent(to: &mut Out, depth: u64) {
     let mut left = depth;
     while 0 < left {
-        say(b"  ");
+        say(to, b"  ");
         left -= 1;
     }
 }
 
 // A row's kind and span, and the text of a leaf.
-fn line(s: &[u8], table: &[u64], row: usize, depth: u64) {
+fn line(to: &mut Out, s: &[u8], table: &[u64], row: usize, depth: u64) {
     let k = cell(table, row, 0);
-    indent(depth);
-    kind_name(k);
-    detail_name(k, cell(table, row, DETAIL));
-    number(cell(table, row, START));
-    number(cell(table, row, END));
-    leaf_text(s, table, row);
-    say(b"\n");
+    indent(to, depth);
+    kind_name(to, k);
+    detail_name(to, k, cell(table, row, DETAIL));
+    number(to, cell(table, row, START));
+    number(to, cell(table, row, END));
+    leaf_text(to, s, table, row);
+    say(to, b"\n");
 }
 
-fn leaf_text(s: &[u8], table: &[u64], row: usize) {
+fn leaf_text(to: &mut Out, s: &[u8], table: &[u64], row: usize) {
     if is_leaf(table, row) {
-        say(b" ");
-        row_text(s, table, row);
+        say(to, b" ");
+        row_text(to, s, table, row);
     }
 }
 
@@ -214,7 +214,7 @@ fn depth_of(table: &[u64], leaf: usize) -> u64 {
 }
 
 // The rows of a leaf's chain, from its top down; nothing for another row.
-fn chain(s: &[u8], table: &mut [u64], leaf: usize) {
+fn chain(to: &mut Out, s: &[u8], table: &mut [u64], leaf: usize) {
     if !is_leaf(table, leaf) {
         return;
     }
@@ -222,7 +222,7 @@ fn chain(s: &[u8], table: &mut [u64], leaf: usize) {
     let mut i = cell(table, leaf, LINK);
     while leaf as u64 <= i {
         set(table, i as usize, DEPTH, depth);
-        line(s, table, i as usize, depth);
+        line(to, s, table, i as usize, depth);
         if i == leaf as u64 {
             return;
         }
@@ -236,30 +236,30 @@ fn chain(s: &[u8], table: &mut [u64], leaf: usize) {
 }
 
 // The rows as a tree: parents first.
-pub fn tree_lines(s: &[u8], table: &mut [u64], count: usize) {
+pub fn tree_lines(to: &mut Out, s: &[u8], table: &mut [u64], count: usize) {
     link_all(table, count);
     let mut i = 0;
     while i < count {
-        chain(s, table, i);
+        chain(to, s, table, i);
         i += 1;
     }
 }
 
 // The code of a token.
-pub fn code_name(code: u64) {
+pub fn code_name(to: &mut Out, code: u64) {
     match code {
-        1 => say(b"IPv6"),
-        2 => say(b"IPv4"),
-        3 => say(b"two signs"),
-        4 => say(b"sign"),
-        5 => say(b"AS number"),
-        6 => say(b"hex"),
-        7 => say(b"integer"),
-        8 => say(b"float"),
-        9 => say(b"string"),
-        10 => say(b"char"),
-        11 => say(b"keyword"),
-        12 => say(b"bool"),
-        _ => say(b"name"),
+        1 => say(to, b"IPv6"),
+        2 => say(to, b"IPv4"),
+        3 => say(to, b"two signs"),
+        4 => say(to, b"sign"),
+        5 => say(to, b"AS number"),
+        6 => say(to, b"hex"),
+        7 => say(to, b"integer"),
+        8 => say(to, b"float"),
+        9 => say(to, b"string"),
+        10 => say(to, b"char"),
+        11 => say(to, b"keyword"),
+        12 => say(to, b"bool"),
+        _ => say(to, b"name"),
     }
 }

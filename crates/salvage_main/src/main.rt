@@ -3,9 +3,11 @@
 #![tactic(auto)]
 
 use chars::{Answer, refusal};
-use libc::{STDERR_FILENO, STDIN_FILENO, STDOUT_FILENO};
 use messages::text::Form;
 use messages::{places, text};
+use programs::Out;
+use std::io::{Error, Stderr, Write};
+use std::rt::Env;
 
 // Ranges that are enough for any source: three bytes each.
 const MOST_RANGES: usize = 21845;
@@ -61,22 +63,23 @@ fn dropped(out: &mut [u8], at: usize, s: &[u8], start: usize, end: usize) -> usi
 }
 
 // The first bytes of a buffer, to standard error.
-fn say(out: &[u8], count: usize) -> bool {
+fn say(to: &mut Stderr, out: &[u8], count: usize) -> Result<(), Error> {
     if count <= out.len() {
-        return io::write_all(STDERR_FILENO, &out[..count]);
+        return to.write_all(&out[..count]);
     }
-    false
+    Ok(())
 }
 
 // A range: its refusal in words, and what was dropped. Nothing before the range is read for it, since declarations alone stand there, and spaces.
 fn report(
+    to: &mut Stderr,
     name: &[u8],
     s: &[u8],
     ranges: &[u64],
     range: usize,
     room: &mut [u8],
     out: &mut [u8],
-) -> bool {
+) -> Result<(), Error> {
     let start = cell(ranges, range, START) as usize;
     let why = Answer {
         number: cell(ranges, range, NUMBER),
@@ -86,24 +89,35 @@ fn report(
     };
     let mut n = messages::report_from(name, s, start, why, room, out);
     n = dropped(out, n, s, start, cell(ranges, range, END) as usize);
-    say(out, n)
+    say(to, out, n)
 }
 
-fn reports(name: &[u8], s: &[u8], ranges: &[u64], count: usize) {
+fn reports(
+    to: &mut Stderr,
+    name: &[u8],
+    s: &[u8],
+    ranges: &[u64],
+    count: usize,
+) -> Result<(), Error> {
     let mut room = io::large_buffer();
     let mut out = io::large_buffer();
     let mut i = 0;
     while i < count {
-        let said = report(name, s, ranges, i, &mut room, &mut out);
-        if !said {
-            return;
-        }
+        report(to, name, s, ranges, i, &mut room, &mut out)?;
         i += 1;
     }
+    Ok(())
 }
 
 // 1, 2 or 3.
-fn refused(name: &[u8], s: &[u8], number: u64, start: usize, end: usize) {
+fn refused(
+    to: &mut Stderr,
+    name: &[u8],
+    s: &[u8],
+    number: u64,
+    start: usize,
+    end: usize,
+) -> Result<(), Error> {
     let mut room = io::large_buffer();
     let mut out = io::large_buffer();
     let why = Answer {
@@ -113,33 +127,44 @@ fn refused(name: &[u8], s: &[u8], number: u64, start: usize, end: usize) {
         count: 0,
     };
     let n = messages::report(name, s, why, &mut room, &mut out);
-    say(&out, n);
+    say(to, &out, n)
 }
 
 // A source, beside it as it came.
-fn salvaged(name: &[u8], s: &mut [u8], came: &[u8], table: &mut [u64], ranges: &mut [u64]) {
+fn salvaged(
+    rt: &(impl Env + AllocGlobal),
+    out: &mut Out,
+    err: &mut Stderr,
+    name: &[u8],
+    s: &mut [u8],
+    came: &[u8],
+    table: &mut [u64],
+    ranges: &mut [u64],
+) {
     let a = salvage::salvage(s, table, ranges);
     if a.number == refusal::NONE {
-        io::write_all(STDOUT_FILENO, s);
-        reports(name, came, ranges, a.ranges);
-        programs::end(a.ranges == 0);
+        out.say(s);
+        let said = reports(err, name, came, ranges, a.ranges);
+        programs::end(rt, a.ranges == 0, out.written().and(said));
         return;
     }
-    refused(name, came, a.number, a.start, a.end);
-    programs::end(false);
+    let said = refused(err, name, came, a.number, a.start, a.end);
+    programs::end(rt, false, said);
 }
 
-fn named(name: &[u8]) {
+fn named(rt: &(impl Env + Input + AllocGlobal), out: &mut Out, err: &mut Stderr, name: &[u8]) {
     let mut source = io::large_buffer();
-    let length = io::read_full(STDIN_FILENO, &mut source);
-    if programs::unread() {
+    let Some(length) = programs::source(rt, &mut source) else {
         return;
-    }
+    };
     let mut came = io::large_buffer();
     text::part(&mut came, 0, Form::Raw, &source, 0, length);
     let mut table = programs::rows_table();
     let mut ranges = range_table();
     salvaged(
+        rt,
+        out,
+        err,
         name,
         &mut source[..length],
         &came[..length],
@@ -148,13 +173,14 @@ fn named(name: &[u8]) {
     );
 }
 
-fn main() {
+fn main(rt: HostRuntime) {
     let mut name = io::buffer();
-    let length = os::arg(1, &mut name);
-    if os::errno() != 0 {
-        os::fail(b"a name");
-        programs::status(programs::FAILED);
-        return;
+    match rt.arg(1, &mut name) {
+        Ok(length) => {
+            let mut out = Out::new(rt.stdout());
+            let mut err = rt.stderr();
+            named(&rt, &mut out, &mut err, &name[..length]);
+        }
+        Err(why) => programs::unnamed(&rt, why),
     }
-    named(&name[..length]);
 }

@@ -1,7 +1,8 @@
 // Checks a file of a source and its rows, or writes one. Standard input is `t`, a newline and the file, or `w`, a newline and the source.
 #![tactic(auto)]
 
-use libc::STDIN_FILENO;
+use programs::Out;
+use std::rt::Env;
 
 // Bytes of the longest file that is read or written here: that of an ordinary filter of 50 KiB.
 const MOST_BYTES: usize = 688128;
@@ -11,34 +12,32 @@ fn file_buffer() -> [u8; MOST_BYTES] {
     [0; MOST_BYTES]
 }
 
-fn check(table: &mut [u64], file: &mut [u8]) {
-    let length = io::read_full(STDIN_FILENO, file);
-    if programs::unread() {
+fn check(rt: &(impl Env + Input + AllocGlobal), out: &mut Out, table: &mut [u64], file: &mut [u8]) {
+    let Some(length) = programs::source(rt, file) else {
         return;
-    }
-    let accepted = print::answer_check(&file[..length], table);
-    programs::end(accepted);
+    };
+    let accepted = print::answer_check(out, &file[..length], table);
+    programs::end(rt, accepted, out.written());
 }
 
-fn write(table: &mut [u64], file: &mut [u8]) {
+fn write(rt: &(impl Env + Input + AllocGlobal), out: &mut Out, table: &mut [u64], file: &mut [u8]) {
     let mut source = io::large_buffer();
-    let length = io::read_full(STDIN_FILENO, &mut source);
-    if programs::unread() {
+    let Some(length) = programs::source(rt, &mut source) else {
         return;
-    }
-    let accepted = print::answer_file(&source[..length], table, file);
-    programs::end(accepted);
+    };
+    let accepted = print::answer_file(out, &source[..length], table, file);
+    programs::end(rt, accepted, out.written());
 }
 
-fn main() {
-    programs::asked();
+fn main(rt: HostRuntime) {
     let what = decimals::next_byte();
     decimals::next_byte();
     let mut table = programs::rows_table();
     let mut file = file_buffer();
+    let mut out = Out::new(rt.stdout());
     if what == b'w' {
-        write(&mut table, &mut file);
+        write(&rt, &mut out, &mut table, &mut file);
     } else {
-        check(&mut table, &mut file);
+        check(&rt, &mut out, &mut table, &mut file);
     }
 }

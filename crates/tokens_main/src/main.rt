@@ -1,15 +1,15 @@
 // Prints the token list of the source on standard input, or its refusal; with the argument `names` by names and with texts.
 #![tactic(auto)]
 
-use libc::STDIN_FILENO;
+use programs::Out;
 
-fn main() {
-    let named = programs::asked() == b'n';
+fn main(rt: HostRuntime) {
+    let named = programs::asked(&rt) == b'n';
     let mut buffer = io::large_buffer();
-    let length = io::read_full(STDIN_FILENO, &mut buffer);
-    if programs::unread() {
+    let Some(length) = programs::source(&rt, &mut buffer) else {
         return;
-    }
-    let accepted = print::answer_tokens(&buffer[..length], 65536, named);
-    programs::end(accepted);
+    };
+    let mut out = Out::new(rt.stdout());
+    let accepted = print::answer_tokens(&mut out, &buffer[..length], 65536, named);
+    programs::end(&rt, accepted, out.written());
 }
