@@ -32,7 +32,7 @@ enum lekhyundo_most {
     LEKHYUNDO_MOST_ROWS = 98304,
     LEKHYUNDO_MOST_INSTRUCTIONS = 1024,
     LEKHYUNDO_MOST_RANGES = 21845,
-    LEKHYUNDO_MOST_STACK = 1179648
+    LEKHYUNDO_MOST_STACK = 1572864
 };
 
 /* The numbers of an answer by their place in it. */

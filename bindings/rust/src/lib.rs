@@ -75,7 +75,7 @@ pub const MOST_RANGES: usize = 21_845;
 
 /// Bytes of stack that are enough for any source, on x86-64 and on Arm. A filter of a few levels takes 11 to 16 KiB, a constant in it
 /// 17 KiB more; only nesting at all limits takes nearly this.
-pub const MOST_STACK: usize = 1_152 << 10;
+pub const MOST_STACK: usize = 1_536 << 10;
 
 /// Rows that are enough for a source of so many bytes: none that is read has more than three to two bytes, and one.
 fn rows_for(length: usize) -> usize {
