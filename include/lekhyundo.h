@@ -4,9 +4,10 @@
  * not be null or unaligned, also for 0 elements, and nothing is kept of it. No function allocates, fails or asks anything
  * of the bytes. What each says is proved, but for the words of lekhyundo_report.
  *
- * (a) and (b) call themselves as deep as a source nests: 11 to 16 KiB of stack for filters of a few levels, 1,016 KiB (on
- * Arm 1,081) for one that nests at all limits at once (docs/ARCHITECTURE.md, "Stack"); lekhyundo_constant takes 17 KiB more
- * than (a) on the same source. A thread with LEKHYUNDO_MOST_STACK bytes of stack can read what strangers wrote.
+ * (a) and (b) call themselves as deep as a source nests: little stack for filters of a few levels, 1,255 KiB on
+ * x86-64 for one that nests at all limits at once (docs/ARCHITECTURE.md, "Stack"); lekhyundo_constant takes 17 KiB more than
+ * (a) on the same source, and up to 66 KiB beside that for a `%` of floats that lie far apart. A thread with
+ * LEKHYUNDO_MOST_STACK bytes of stack can read what strangers wrote.
  *
  * An answer is four numbers: one of enum lekhyundo_refusal, where its place starts and ends, and a count: the rows or
  * bytes for 0, those needed for 10, else 0. If fewer than four are lent, only those are written.
@@ -322,7 +323,7 @@ enum lekhyundo_instruction {
  * the instructions. Refused: zeros throughout both, and two zeros behind the count: (a)'s numbers for the source, 15 where
  * there is no such constant (0, 0), where its expression has more than 1,024 rows, where it has another type, or at the first
  * row with a form not taken, a wrong type or too large a literal; 14 there for a float of too many digits; 10 with the
- * instructions needed; 16 at the operator whose integer divisor is zero. A C program names -lm: `%` of f64 is fmod. */
+ * instructions needed; 16 at the operator whose integer divisor is zero. */
 void lekhyundo_constant(const uint8_t *source, size_t source_length, uint64_t number, uint64_t *table, size_t table_length,
                         uint64_t *list, size_t list_length, uint64_t *answer, size_t answer_length);
 

@@ -73,8 +73,8 @@ pub const MOST_ROWS: usize = 98_304;
 /// Dropped ranges that are enough for any source: one to three bytes.
 pub const MOST_RANGES: usize = 21_845;
 
-/// Bytes of stack that are enough for any source, on x86-64 and on Arm. A filter of a few levels takes 11 to 16 KiB, a constant in it
-/// 17 KiB more; only nesting at all limits takes nearly this.
+/// Bytes of stack that are enough for any source, measured on x86-64. A filter of a few levels takes little, a constant in it
+/// 17 KiB more, and up to 66 KiB beside that for a `%` of floats that lie far apart; only nesting at all limits takes nearly this.
 pub const MOST_STACK: usize = 1_536 << 10;
 
 /// Rows that are enough for a source of so many bytes: none that is read has more than three to two bytes, and one.
