@@ -6,6 +6,9 @@ ghost use Rattle.std.specs.Float.Ieee as Ieee;
 ghost use Rattle.std.specs.Float.{binary64};
 ghost use Rattle.remainders.specs.Amounts.{amount, divisor};
 
+// 2^1023: twice this is more than any float.
+const HALF_RANGE: f64 = 8.98846567431158e307;
+
 // What is left of an amount: by twice a divisor first, and then by the divisor, unless twice it could be too large for a float.
 fn rest(x: f64, y: f64) -> f64
     requires amount { T (amount x) }
@@ -15,7 +18,7 @@ fn rest(x: f64, y: f64) -> f64
     if x < y {
         return x - 0.0;
     }
-    if y < 8.98846567431158e307 {
+    if y < HALF_RANGE {
         let r = rest(x, y + y);
         if r < y {
             return r;
