@@ -1,4 +1,5 @@
 -- What is read between separators is what a relation says of it, in both directions; and so for the dotted quad.
+use Rattle.std.specs.Prelude.{Some, None}
 use mathlib.Core.Path.{◌≡◌, refl, sym, ap, ap₂, ◌∙◌, subst}
 use Prim.Native.Nat.{ℕ, suc, ◌+◌, ◌<◌, ◌≤◌}
 use mathlib.Core.List.{List, [], ◌∷◌, ◌++◌, map}
@@ -11,12 +12,12 @@ use lib.Dec.{eqb, ltb}
 use borrow.Author.Tests.{eq-eqb, eqb-true, ltb-true, le-ltb, lt-ltb, ne_eqb}
 use Rattle.chars.specs.Chars.{byte_at}
 use Rattle.numbers.specs.declared.Base.{Base}
-use Rattle.numbers.specs.declared.Number.{Number}
+use Rattle.numbers.specs.Results.{Number}
 use Rattle.numbers.specs.Digits.{digit_of, value_of, all_below, number_of}
 use Rattle.numbers.proofs.Choices.{first, second, and_left, and_right, and, not_left, not_right}
 use Rattle.numbers.proofs.Digits.{Says, number_says, says_number}
 use Rattle.addresses.specs.declared.Form.{Form}
-use Rattle.addresses.specs.declared.Quad.{Quad}
+use Rattle.addresses.specs.Results.{Quad}
 use Rattle.addresses.specs.Groups.{short_of, group_of, onto, parts, before, values_of}
 use Rattle.addresses.specs.Quads.{Joined, one, more, Octet, IPv4}
 use Rattle.addresses.specs.Addresses.{exactly, octets_of, as_quad, quad_of}
@@ -98,7 +99,7 @@ record Split (form : Form) (p : List ℕ) (ps : List (List ℕ)) (vs : List ℕ)
   v : ℕ
   k : ℕ
   ws : List ℕ
-  head : group_of form p ≡ Number.Is v k
+  head : group_of form p ≡ Some (v, k)
   tail : values_of form ps ≡ some ws
   all : vs ≡ v ∷ ws
 
@@ -107,14 +108,14 @@ unfolding values_of
 split form p ps e = go (group_of form p) (values_of form ps) refl refl e
   where
     go : {vs : List ℕ} (g : Number) (o : Option (List ℕ)) → group_of form p ≡ g → values_of form ps ≡ o → before g o ≡ some vs → Split form p ps vs
-    go (Number.Is v k) (some ws) e f h = record { v = v; k = k; ws = ws; head = e; tail = f; all = sym (some_same h) }
-    go (Number.Is v k) none e f h = let z : ◌≡◌ {A = ℕ} 0 1 = cc in absurd (omega arith)
-    go Number.None o e f h = let z : ◌≡◌ {A = ℕ} 0 1 = cc in absurd (omega arith)
+    go (Some (v, k)) (some ws) e f h = record { v = v; k = k; ws = ws; head = e; tail = f; all = sym (some_same h) }
+    go (Some (v, k)) none e f h = let z : ◌≡◌ {A = ℕ} 0 1 = cc in absurd (omega arith)
+    go None o e f h = let z : ◌≡◌ {A = ℕ} 0 1 = cc in absurd (omega arith)
 
 -- a form whose parts are those of a relation, which keep off the separator
 pub record Reads (form : Form) (sep : ℕ) (Part : List ℕ → ℕ → Type 0) : Type 0 where
-  pub sound : (t : List ℕ) (v k : ℕ) → group_of form t ≡ Number.Is v k → Part t v
-  pub complete : (t : List ℕ) (v : ℕ) → Part t v → group_of form t ≡ Number.Is v (length t)
+  pub sound : (t : List ℕ) (v k : ℕ) → group_of form t ≡ Some (v, k) → Part t v
+  pub complete : (t : List ℕ) (v : ℕ) → Part t v → group_of form t ≡ Some (v, length t)
   pub apart : (t : List ℕ) (v : ℕ) → Part t v → Apart sep t
 
 module _ {form : Form} {sep : ℕ} {Part : List ℕ → ℕ → Type 0} (r : Reads form sep Part) where
@@ -155,22 +156,22 @@ exactly_says n (some ws) {vs} e = go (eqb (length ws) n) refl e
 no_zero : (t : List ℕ) → leads_zero (length t) (byte_at t 0) ≡ false → 1 < length t → byte_at t 0 ≡ 48 → ⊥
 no_zero t e h k = let z : true ≡ false = sym (and (lt-ltb 1 (length t) h) (eq-eqb _ _ k)) ∙ e in let y : ◌≡◌ {A = ℕ} 0 1 = cc in omega arith
 
-octet_sound : {t : List ℕ} {v k : ℕ} → group_of Form.Dotted t ≡ Number.Is v k → Octet t v
+octet_sound : {t : List ℕ} {v k : ℕ} → group_of Form.Dotted t ≡ Some (v, k) → Octet t v
 unfolding group_of
 octet_sound {t} {v} {k} e = go (leads_zero (length t) (byte_at t 0)) refl e
   where
-    go : (u : Bool) → leads_zero (length t) (byte_at t 0) ≡ u → cond u Number.None (short_of (number_of Base.Ten 255 t) 3) ≡ Number.Is v k → Octet t v
+    go : (u : Bool) → leads_zero (length t) (byte_at t 0) ≡ u → cond u None (short_of (number_of Base.Ten 255 t) 3) ≡ Some (v, k) → Octet t v
     go true f h = let z : ◌≡◌ {A = ℕ} 0 1 = cc in absurd (omega arith)
     go false f h =
         let q = short_number (number_of Base.Ten 255 t) 3 h in
         let s = number_says Base.Ten 255 t q.0 in
         record { digits = s.digits; some = subst (λ n. 1 ≤ n) s.count s.some; few = subst (λ n. n ≤ 3) s.count q.1; most = s.most; plain = no_zero t f; value = s.value }
 
-octet_complete : {t : List ℕ} {v : ℕ} → Octet t v → group_of Form.Dotted t ≡ Number.Is v (length t)
+octet_complete : {t : List ℕ} {v : ℕ} → Octet t v → group_of Form.Dotted t ≡ Some (v, length t)
 unfolding group_of
 octet_complete {t} {v} o =
     let s : Says Base.Ten 255 t v (length t) = record { digits = o.digits; value = o.value; most = o.most; some = o.some; count = refl } in
-    sym (second Number.None (leads (ℕ_discrete (byte_at t 0) 48)) (number_short (says_number Base.Ten 255 t s) o.few))
+    sym (second None (leads (ℕ_discrete (byte_at t 0) 48)) (number_short (says_number Base.Ten 255 t s) o.few))
   where
     leads : Dec (byte_at t 0 ≡ 48) → leads_zero (length t) (byte_at t 0) ≡ false
     leads (no f) = not_right (ltb 1 (length t)) (ne_eqb _ _ f)
@@ -213,15 +214,15 @@ pub quad_periods : {t : List ℕ} {vs : List ℕ} → IPv4 t vs → Apart 46 t �
 quad_periods q = two_octets q.octets q.four
 
 -- the value of an IPv4 address that is read is that of its octets, and every text that the rule admits is read; with one value
-pub ipv4_sound : (t : List ℕ) {v : ℕ} → quad_of t ≡ Quad.Is v → (vs : List ℕ) × IPv4 t vs × (v ≡ value_of 256 vs)
+pub ipv4_sound : (t : List ℕ) {v : ℕ} → quad_of t ≡ Some v → (vs : List ℕ) × IPv4 t vs × (v ≡ value_of 256 vs)
 unfolding quad_of
 ipv4_sound t {v} e = go (octets_of t) refl e
   where
-    go : (o : Option (List ℕ)) → octets_of t ≡ o → as_quad o ≡ Quad.Is v → (vs : List ℕ) × IPv4 t vs × (v ≡ value_of 256 vs)
+    go : (o : Option (List ℕ)) → octets_of t ≡ o → as_quad o ≡ Some v → (vs : List ℕ) × IPv4 t vs × (v ≡ value_of 256 vs)
     go (some vs) f h = (vs, octets_sound t f, cc)
     go none f h = let z : ◌≡◌ {A = ℕ} 0 1 = cc in absurd (omega arith)
 
-pub ipv4_complete : {t : List ℕ} {vs : List ℕ} → IPv4 t vs → quad_of t ≡ Quad.Is (value_of 256 vs)
+pub ipv4_complete : {t : List ℕ} {vs : List ℕ} → IPv4 t vs → quad_of t ≡ Some (value_of 256 vs)
 unfolding quad_of
 ipv4_complete q = ap as_quad (octets_complete q)
 
@@ -233,9 +234,9 @@ octets_long : {t : List ℕ} {vs : List ℕ} → Joined Octet 46 t vs → length
 octets_long (one o) = omega (arith, o.some)
 octets_long (more {t} {u} o j) = omega (arith, o.some, octets_long j, length-append t (46 ∷ u))
 
-pub short_quad : (t : List ℕ) → length t < 7 → Quad.None ≡ quad_of t
+pub short_quad : (t : List ℕ) → length t < 7 → None ≡ quad_of t
 short_quad t h = go (quad_of t) refl
   where
-    go : (q : Quad) → quad_of t ≡ q → Quad.None ≡ q
-    go Quad.None e = refl
-    go (Quad.Is v) e = let r = ipv4_sound t e in absurd (omega (arith, h, octets_long r.1.octets, r.1.four))
+    go : (q : Quad) → quad_of t ≡ q → None ≡ q
+    go None e = refl
+    go (Some v) e = let r = ipv4_sound t e in absurd (omega (arith, h, octets_long r.1.octets, r.1.four))

@@ -1,4 +1,5 @@
 -- What is read of a text is what RFC 4291 says of it, in both directions, for all its forms; and no text has two readings.
+use Rattle.std.specs.Prelude.{Some}
 use mathlib.Core.Path.{◌≡◌, refl, sym, ap, ap₂, ◌∙◌, subst}
 use Prim.Native.Nat.{ℕ, zero, suc, ◌+◌, ◌-◌, ◌<◌, ◌≤◌}
 use mathlib.Core.List.{List, [], ◌∷◌, ◌++◌, map, append_assoc, append-nil}
@@ -15,13 +16,12 @@ use Rattle.chars.specs.Chars.{byte_at}
 use Rattle.chars.specs.Runs.{behind_last}
 use Rattle.chars.proofs.Runs.{byte_in, byte_out, last_here, last_back, last_le, last_stands}
 use Rattle.numbers.specs.declared.Base.{Base}
-use Rattle.numbers.specs.declared.Number.{Number}
 use Rattle.numbers.specs.Digits.{digit_of, value_from, value_of, all_below, number_of}
 use Rattle.numbers.proofs.Choices.{first, second, and_left, and_right, not_left, not_right}
 use Rattle.numbers.proofs.Digits.{Says, number_says, says_number}
 use Rattle.numbers.proofs.Texts.{byte_behind}
+use Rattle.addresses.specs.declared.Wide.{Wide}
 use Rattle.addresses.specs.declared.Form.{Form}
-use Rattle.addresses.specs.declared.Address.{Address}
 use Rattle.addresses.specs.Groups.{group_of, parts, values_of}
 use Rattle.addresses.specs.Quads.{one, more, IPv4, paired}
 use Rattle.addresses.specs.Addresses.{exactly, octets_of, gap, side_of, filled, groups_in, front_of, join_quad, groups_with, groups_of, as_address, wide_of}
@@ -56,14 +56,14 @@ below (a ∷ b ∷ c ∷ d ∷ []) h k =
     omega (arith, hex_head a (b ∷ c ∷ d ∷ []) h, hex_head b (c ∷ d ∷ []) i, hex_head c (d ∷ []) j, hex_head d [] (hex_tail c (d ∷ []) j))
 below (a ∷ b ∷ c ∷ d ∷ e ∷ t) h k = absurd (omega (arith, k))
 
-group_sound : {t : List ℕ} {v k : ℕ} → group_of Form.Hexed t ≡ Number.Is v k → Group t v
+group_sound : {t : List ℕ} {v k : ℕ} → group_of Form.Hexed t ≡ Some (v, k) → Group t v
 unfolding group_of
 group_sound {t} e =
     let q = short_number (number_of Base.Sixteen 65535 t) 4 e in
     let s = number_says Base.Sixteen 65535 t q.0 in
     record { digits = s.digits; some = subst (λ n. 1 ≤ n) s.count s.some; few = subst (λ n. n ≤ 4) s.count q.1; value = s.value }
 
-group_complete : {t : List ℕ} {v : ℕ} → Group t v → group_of Form.Hexed t ≡ Number.Is v (length t)
+group_complete : {t : List ℕ} {v : ℕ} → Group t v → group_of Form.Hexed t ≡ Some (v, length t)
 unfolding group_of
 group_complete {t} {v} g =
     let s : Says Base.Sixteen 65535 t v (length t) = record { digits = g.digits; value = g.value; most = subst (λ n. n ≤ 65535) (sym g.value) (below t g.digits g.few); some = g.some; count = refl } in
@@ -447,15 +447,17 @@ sound t {vs} e = go (octets_of (drop at t)) refl e
         subst (IPv6 t) p.2 (mixed_cut t (last_le 58 t (length t)) (last_stands 58 t (length t)) (pieces_sound 6 (take (front_of t at) t) p.1) (octets_sound (drop at t) f))
 
 -- the halves that are read are those of the groups, and every text that the RFC admits is read
-pub value_sound : (t : List ℕ) {high low : ℕ} → wide_of t ≡ Address.Is high low → (vs : List ℕ) × IPv6 t vs × (high ≡ value_of 65536 (take 4 vs)) × (low ≡ value_of 65536 (drop 4 vs))
+pub value_sound : (t : List ℕ) {high low : ℕ} → wide_of t ≡ Some (record { high = high; low = low }) → (vs : List ℕ) × IPv6 t vs × (high ≡ value_of 65536 (take 4 vs)) × (low ≡ value_of 65536 (drop 4 vs))
 unfolding wide_of
 value_sound t {high} {low} e = go (groups_of t) refl e
   where
-    go : (o : Option (List ℕ)) → groups_of t ≡ o → as_address o ≡ Address.Is high low → (vs : List ℕ) × IPv6 t vs × (high ≡ value_of 65536 (take 4 vs)) × (low ≡ value_of 65536 (drop 4 vs))
-    go (some vs) f h = (vs, sound t f, cc, cc)
+    go : (o : Option (List ℕ)) → groups_of t ≡ o → as_address o ≡ Some (record { high = high; low = low }) → (vs : List ℕ) × IPv6 t vs × (high ≡ value_of 65536 (take 4 vs)) × (low ≡ value_of 65536 (drop 4 vs))
+    go (some vs) f h =
+        let u : ◌≡◌ {A = Wide} (record { high = high; low = low }) (record { high = value_of 65536 (take 4 vs); low = value_of 65536 (drop 4 vs) }) = cc in
+        (vs, sound t f, ap (λ (w : Wide). w.high) u, ap (λ (w : Wide). w.low) u)
     go none f h = let z : ◌≡◌ {A = ℕ} 0 1 = cc in absurd (omega arith)
 
-pub value_complete : {t : List ℕ} {vs : List ℕ} → IPv6 t vs → wide_of t ≡ Address.Is (value_of 65536 (take 4 vs)) (value_of 65536 (drop 4 vs))
+pub value_complete : {t : List ℕ} {vs : List ℕ} → IPv6 t vs → wide_of t ≡ Some (record { high = (value_of 65536 (take 4 vs)); low = (value_of 65536 (drop 4 vs)) })
 unfolding wide_of
 value_complete a = ap as_address (complete a)
 

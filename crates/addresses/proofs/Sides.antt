@@ -1,4 +1,5 @@
 -- The two sides of a `::`, the eight groups, and the halves that they write.
+use Rattle.std.specs.Prelude.{Some, None}
 use mathlib.Core.Path.{◌≡◌, refl, sym, ap, ap₂, ◌∙◌, subst}
 use Prim.Native.Nat.{ℕ, zero, suc, ◌+◌, ◌-◌, ◌*◌, ◌/◌, ◌%◌, ◌<◌, ◌≤◌, suc-le-suc}
 use mathlib.Core.List.{List, [], ◌∷◌, ◌++◌}
@@ -14,14 +15,13 @@ use lib.Dec.{eqb, ltb, leb, lit<}
 use borrow.Author.Tests.{le-leb, leb-true, leb-false, eq-eqb, ne_eqb, eqb-true, lt-ltb, le-ltb, ltb-true}
 use Rattle.chars.specs.Chars.{byte_at}
 use Rattle.chars.proofs.Runs.{byte_in, within}
-use Rattle.numbers.specs.declared.Number.{Number}
+use Rattle.numbers.specs.Results.{Number}
 use Rattle.numbers.specs.Digits.{value_from, value_of}
 use Rattle.numbers.proofs.Choices.{so, first, second, and_right}
 use Rattle.numbers.proofs.Texts.{byte_behind}
 use Rattle.addresses.specs.declared.Form.{Form}
 use Rattle.addresses.specs.declared.Wide.{Wide}
-use Rattle.addresses.specs.declared.Groups.{Groups}
-use Rattle.addresses.specs.declared.Quad.{Quad}
+use Rattle.addresses.specs.Results.{Groups}
 use Rattle.addresses.specs.Groups as spec
 use Rattle.addresses.specs.Groups.{group_of, parts, before, values_of, push_of, push_all, heard, only_of}
 use Rattle.addresses.specs.Addresses.{exactly, octets_of, as_quad, quad_of, gap, side_of, filled, groups_in}
@@ -60,9 +60,9 @@ gap_whole (b ∷ l) h = go (colons b (byte_at l 0)) refl h (gap_whole l)
 
 -- the groups on one side
 module _ (n : ℕ) (w : Wide) (t : List ℕ) where
-  pub side_empty : length t ≡ 0 → n ≤ 8 → Groups.Are n w ≡ heard Form.Hexed n w (side_of t)
+  pub side_empty : length t ≡ 0 → n ≤ 8 → Some (n, w) ≡ heard Form.Hexed n w (side_of t)
   unfolding side_of heard push_all
-  side_empty e h = first Groups.None (le-leb n 8 h) refl ∙ sym (ap (λ m. cond (leb m 8) (Groups.Are m w) Groups.None) (add-zero n)) ∙ ap (heard Form.Hexed n w) (first (values_of Form.Hexed (parts 58 t)) (eq-eqb _ _ e) refl)
+  side_empty e h = first None (le-leb n 8 h) refl ∙ sym (ap (λ m. cond (leb m 8) (Some (m, w)) None) (add-zero n)) ∙ ap (heard Form.Hexed n w) (first (values_of Form.Hexed (parts 58 t)) (eq-eqb _ _ e) refl)
 
   pub side_groups : {r : Groups} → (length t ≡ 0 → ⊥) → r ≡ heard Form.Hexed n w (values_of Form.Hexed (parts 58 t)) → r ≡ heard Form.Hexed n w (side_of t)
   unfolding side_of
@@ -90,22 +90,22 @@ some_same e = cc
 
 module _ (form : Form) (n : ℕ) (w : Wide) where
   abbrev Said : Option (List ℕ) → Groups → Type 0
-  Said o (Groups.Are c x) = Heard form n w o c x
-  Said o Groups.None = (vs : List ℕ) → o ≡ some vs → 8 < n + length vs
+  Said o (Some (c, x)) = Heard form n w o c x
+  Said o None = (vs : List ℕ) → o ≡ some vs → 8 < n + length vs
 
   said : (o : Option (List ℕ)) → Said o (heard form n w o)
   unfolding heard
   said none = λ vs e. let z : ◌≡◌ {A = ℕ} 0 1 = cc in absurd (omega arith)
   said (some vs) = go (leb (n + length vs) 8) refl
     where
-      go : (t : Bool) → leb (n + length vs) 8 ≡ t → Said (some vs) (cond t (Groups.Are (n + length vs) (push_all form w vs)) Groups.None)
+      go : (t : Bool) → leb (n + length vs) 8 ≡ t → Said (some vs) (cond t (Some (n + length vs, push_all form w vs)) None)
       go true e = record { vs = vs; are = refl; count = refl; wide = refl; few = leb-true _ _ e }
       go false e = λ ws f. subst (λ l. 8 < n + length l) (some_same f) (leb-false _ _ e)
 
-  pub heard_are : (o : Option (List ℕ)) {c : ℕ} {x : Wide} → heard form n w o ≡ Groups.Are c x → Heard form n w o c x
+  pub heard_are : (o : Option (List ℕ)) {c : ℕ} {x : Wide} → heard form n w o ≡ Some (c, x) → Heard form n w o c x
   heard_are o e = subst (Said o) e (said o)
 
-  pub heard_not : (o : Option (List ℕ)) → heard form n w o ≡ Groups.None → (vs : List ℕ) → o ≡ some vs → 8 < n + length vs
+  pub heard_not : (o : Option (List ℕ)) → heard form n w o ≡ None → (vs : List ℕ) → o ≡ some vs → 8 < n + length vs
   heard_not o e = subst (Said o) e (said o)
 
 -- too many groups beside the `::`, or a side that is none
@@ -120,14 +120,14 @@ unfolding filled
 filled_are m vs ws h = sym (first _ (lt-ltb _ _ h) refl)
 
 module _ {m : ℕ} (top : m ≤ 8) (L R : Option (List ℕ)) (z : Wide) where
-  refused : filled m L R ≡ none → Groups.None ≡ heard Form.Hexed 0 z (filled m L R)
+  refused : filled m L R ≡ none → None ≡ heard Form.Hexed 0 z (filled m L R)
   unfolding heard
   refused e = rw e refl
 
-  pub short_left : (w : Wide) → heard Form.Hexed 0 w L ≡ Groups.None → Groups.None ≡ heard Form.Hexed 0 z (filled m L R)
+  pub short_left : (w : Wide) → heard Form.Hexed 0 w L ≡ None → None ≡ heard Form.Hexed 0 z (filled m L R)
   short_left w e = refused (unfilled m L R (λ vs ws p q. omega (arith, heard_not Form.Hexed 0 w L e vs p)))
 
-  pub short_right : (w : Wide) → heard Form.Hexed 0 w R ≡ Groups.None → Groups.None ≡ heard Form.Hexed 0 z (filled m L R)
+  pub short_right : (w : Wide) → heard Form.Hexed 0 w R ≡ None → None ≡ heard Form.Hexed 0 z (filled m L R)
   short_right w e = refused (unfilled m L R (λ vs ws p q. omega (arith, heard_not Form.Hexed 0 w R e ws q)))
 
 pub push_append : (form : Form) (w : Wide) (vs ws : List ℕ) → push_all form w (vs ++ ws) ≡ push_all form (push_all form w vs) ws
@@ -139,7 +139,7 @@ module _ {m : ℕ} (top : m ≤ 8) (L R : Option (List ℕ)) (w : Wide) {c d : �
   filled_by : filled m L R ≡ filled m (some hl.vs) (some hr.vs)
   filled_by = ap₂ (filled m) hl.are hr.are
 
-  pub short_over : m ≤ c + d → Groups.None ≡ heard Form.Hexed 0 w (filled m L R)
+  pub short_over : m ≤ c + d → None ≡ heard Form.Hexed 0 w (filled m L R)
   short_over h = refused top L R w (filled_by ∙ unfilled m (some hl.vs) (some hr.vs) (λ vs ws p q. many vs ws (some_same p) (some_same q)))
     where
       many : (vs ws : List ℕ) → hl.vs ≡ vs → hr.vs ≡ ws → m ≤ length vs + length ws
@@ -160,20 +160,20 @@ module _ {m : ℕ} (top : m ≤ 8) (L R : Option (List ℕ)) (w : Wide) {c d : �
       ∙ sym (push_append Form.Hexed w (vs ++ zs) ws ∙ ap (λ p. push_all Form.Hexed p ws) (push_append Form.Hexed w vs zs)) in
       e
       ∙ ap (heard Form.Hexed (m - d) u) hr.are
-      ∙ ap₂ (λ n p. cond (leb n 8) (Groups.Are n p) Groups.None) (n ∙ sym k) q
+      ∙ ap₂ (λ n p. cond (leb n 8) (Some (n, p)) None) (n ∙ sym k) q
       ∙ sym (ap (heard Form.Hexed 0 w) (filled_by ∙ filled_are m vs ws (omega (arith, h))))
 
 -- so many groups, or none
 module _ {g : Groups} (m : ℕ) where
-  pub only_is : {n : ℕ} {w : Wide} → g ≡ Groups.Are n w → n ≡ m → Groups.Are n w ≡ only_of m g
+  pub only_is : {n : ℕ} {w : Wide} → g ≡ Some (n, w) → n ≡ m → Some (n, w) ≡ only_of m g
   unfolding only_of
   only_is e h = rw e (first _ (eq-eqb _ _ h) refl)
 
-  pub only_not : {n : ℕ} {w : Wide} → g ≡ Groups.Are n w → (n ≡ m → ⊥) → Groups.None ≡ only_of m g
+  pub only_not : {n : ℕ} {w : Wide} → g ≡ Some (n, w) → (n ≡ m → ⊥) → None ≡ only_of m g
   unfolding only_of
   only_not e h = rw e (second _ (ne_eqb _ _ h) refl)
 
-  pub only_none : g ≡ Groups.None → Groups.None ≡ only_of m g
+  pub only_none : g ≡ None → None ≡ only_of m g
   unfolding only_of
   only_none e = rw e refl
 
@@ -191,10 +191,10 @@ unfolding values_of
 values_below form [] = tt
 values_below form (p ∷ ps) = go (group_of form p) (values_of form ps) (λ v k e. suc-le-suc (group_top form p e)) (values_below form ps)
   where
-    go : (g : Number) (o : Option (List ℕ)) → ((v k : ℕ) → g ≡ Number.Is v k → v < suc (top_of form)) → Below (suc (top_of form)) o → Below (suc (top_of form)) (before g o)
-    go (Number.Is v k) (some vs) h s = (h v k refl, s)
-    go (Number.Is v k) none h s = tt
-    go Number.None o h s = tt
+    go : (g : Number) (o : Option (List ℕ)) → ((v k : ℕ) → g ≡ Some (v, k) → v < suc (top_of form)) → Below (suc (top_of form)) o → Below (suc (top_of form)) (before g o)
+    go (Some (v, k)) (some vs) h s = (h v k refl, s)
+    go (Some (v, k)) none h s = tt
+    go None o h s = tt
 
 pub all_append : (r : ℕ) (vs ws : List ℕ) → AllLt r vs → AllLt r ws → AllLt r (vs ++ ws)
 all_append r [] ws h k = k
@@ -294,19 +294,19 @@ eight_halves (a ∷ b ∷ c ∷ d ∷ f ∷ g ∷ h ∷ i ∷ j ∷ vs) e s = ab
 -- what was heard, where so many are wanted
 module _ {m : ℕ} (top : m ≤ 8) where
   abbrev one_two : List ℕ → Bool → Groups
-  one_two vs u = cond u (Groups.Are (0 + length vs) (push_all Form.Hexed spec.all_zero vs)) Groups.None
+  one_two vs u = cond u (Some (0 + length vs, push_all Form.Hexed spec.all_zero vs)) None
 
   only_these : (vs : List ℕ) → length vs ≡ m → only_of m (heard Form.Hexed 0 spec.all_zero (some vs)) ≡ heard Form.Hexed 0 spec.all_zero (some vs)
   unfolding heard
   only_these vs e =
-      let k : Groups.Are (0 + length vs) (push_all Form.Hexed spec.all_zero vs) ≡ heard Form.Hexed 0 spec.all_zero (some vs) = first Groups.None (le-leb (0 + length vs) 8 (omega (arith, e))) refl in
+      let k : Some (0 + length vs, push_all Form.Hexed spec.all_zero vs) ≡ heard Form.Hexed 0 spec.all_zero (some vs) = first None (le-leb (0 + length vs) 8 (omega (arith, e))) refl in
       sym (only_is m (sym k) (zero-add (length vs) ∙ e)) ∙ k
 
-  only_others : (vs : List ℕ) → (length vs ≡ m → ⊥) → only_of m (heard Form.Hexed 0 spec.all_zero (some vs)) ≡ Groups.None
+  only_others : (vs : List ℕ) → (length vs ≡ m → ⊥) → only_of m (heard Form.Hexed 0 spec.all_zero (some vs)) ≡ None
   unfolding heard only_of
   only_others vs f = go (leb (0 + length vs) 8)
     where
-      go : (u : Bool) → only_of m (one_two vs u) ≡ Groups.None
+      go : (u : Bool) → only_of m (one_two vs u) ≡ None
       go true = sym (second _ (ne_eqb _ _ (λ e. f (sym (zero-add (length vs)) ∙ e))) refl)
       go false = refl
 
@@ -411,31 +411,31 @@ module _ (t : List ℕ) {g : Groups} (hg : g ≡ heard Form.Dotted 0 spec.all_ze
   octets : Option (List ℕ)
   octets = values_of Form.Dotted (parts 46 t)
 
-  unquad : ((vs : List ℕ) → octets ≡ some vs → length vs ≡ 4 → ⊥) → Quad.None ≡ quad_of t
+  unquad : ((vs : List ℕ) → octets ≡ some vs → length vs ≡ 4 → ⊥) → None ≡ quad_of t
   unfolding quad_of octets_of exactly octets
   unquad h = go octets h
     where
-      go : (o : Option (List ℕ)) → ((vs : List ℕ) → o ≡ some vs → length vs ≡ 4 → ⊥) → Quad.None ≡ as_quad (exactly 4 o)
+      go : (o : Option (List ℕ)) → ((vs : List ℕ) → o ≡ some vs → length vs ≡ 4 → ⊥) → None ≡ as_quad (exactly 4 o)
       go none h = refl
       go (some vs) h = ap as_quad (second (some vs) (ne_eqb _ _ (h vs refl)) refl)
 
-  pub quad_none : g ≡ Groups.None → Quad.None ≡ quad_of t
+  pub quad_none : g ≡ None → None ≡ quad_of t
   unfolding octets
   quad_none e = unquad (λ vs f h. omega (arith, h, heard_not Form.Dotted 0 spec.all_zero octets (so hg e) vs f))
 
-  module _ {n : ℕ} {w : Wide} (e : g ≡ Groups.Are n w) where
+  module _ {n : ℕ} {w : Wide} (e : g ≡ Some (n, w)) where
     these : Heard Form.Dotted 0 spec.all_zero octets n w
     unfolding octets
     these = heard_are Form.Dotted 0 spec.all_zero octets (so hg e)
 
-    pub quad_not : (n ≡ 4 → ⊥) → Quad.None ≡ quad_of t
+    pub quad_not : (n ≡ 4 → ⊥) → None ≡ quad_of t
     quad_not h = unquad (λ vs f k. h (these.count ∙ zero-add (length these.vs) ∙ ap length (some_same (sym these.are ∙ f)) ∙ k))
 
-    pub quad_is : n ≡ 4 → Quad.Is w.low ≡ quad_of t
+    pub quad_is : n ≡ 4 → Some w.low ≡ quad_of t
     unfolding quad_of octets_of exactly octets
     quad_is h =
         let k : length these.vs ≡ 4 = sym (zero-add (length these.vs)) ∙ sym these.count ∙ h in
         let s : AllLt 256 these.vs = subst (Below 256) these.are (values_below Form.Dotted (parts 46 t)) in
-        ap Quad.Is (ap (λ w. w.low) these.wide ∙ four_octets these.vs k s)
+        ap Some (ap (λ w. w.low) these.wide ∙ four_octets these.vs k s)
         ∙ ap as_quad (first none (eq-eqb _ _ k) refl)
         ∙ sym (ap (λ o. as_quad (exactly 4 o)) these.are)

@@ -1,13 +1,13 @@
 -- "Literal values" of document 01: IPv4 and IPv6 addresses.
-use Rattle.std.specs.Prelude.{ℕ, suc, ◌+◌, ◌-◌, ◌/◌, ◌%◌, List, [], ◌∷◌, ◌++◌, ◌&&◌, cond, length, take, drop, replicate, eqb, ltb}
+use Rattle.std.specs.Prelude.{Some, None, ℕ, suc, ◌+◌, ◌-◌, ◌/◌, ◌%◌, List, [], ◌∷◌, ◌++◌, ◌&&◌, cond, length, take, drop, replicate, eqb, ltb}
 use Rattle.std.proofs.Math.Option.{Option, none, some}
 use Rattle.chars.specs.Chars.{byte_at}
 use Rattle.chars.specs.Runs.{behind_last}
 use Rattle.numbers.specs.Digits.{value_of}
 use Rattle.addresses.specs.declared.Form.{Form}
 use Rattle.addresses.specs.declared.Wide.{Wide}
-use Rattle.addresses.specs.declared.Quad.{Quad}
-use Rattle.addresses.specs.declared.Address.{Address}
+use Rattle.addresses.specs.Results.{Quad}
+use Rattle.addresses.specs.Results.{Address}
 use Rattle.addresses.specs.Groups.{parts, values_of, push_of}
 use Rattle.addresses.specs.Quads.{paired}
 
@@ -22,8 +22,8 @@ octets_of text = exactly 4 (values_of Form.Dotted (parts 46 text))
 
 -- "first octet highest"
 abbrev pub as_quad : Option (List ℕ) → Quad
-as_quad (some vs) = Quad.Is (value_of 256 vs)
-as_quad none = Quad.None
+as_quad (some vs) = Some (value_of 256 vs)
+as_quad none = None
 
 unfoldable pub quad_of : List ℕ → Quad
 quad_of text = as_quad (octets_of text)
@@ -68,8 +68,8 @@ groups_of text = let at : ℕ = behind_last 58 text (length text) in groups_with
 
 -- "value high half, detail low half"
 abbrev pub as_address : Option (List ℕ) → Address
-as_address (some vs) = Address.Is (value_of 65536 (take 4 vs)) (value_of 65536 (drop 4 vs))
-as_address none = Address.None
+as_address (some vs) = Some (record { high = (value_of 65536 (take 4 vs)); low = (value_of 65536 (drop 4 vs)) })
+as_address none = None
 
 unfoldable pub wide_of : List ℕ → Address
 wide_of text = as_address (groups_of text)
@@ -77,17 +77,17 @@ wide_of text = as_address (groups_of text)
 -- What the functions inside promise to each other of a text with a quad or without: how many groups it has, how far they reach, the
 -- quad's first half, and the address from both.
 abbrev pub whole_of : Quad → ℕ
-whole_of (Quad.Is q) = 6
-whole_of Quad.None = 8
+whole_of (Some q) = 6
+whole_of None = 8
 
 abbrev pub end_of : List ℕ → ℕ → Quad → ℕ
-end_of text at (Quad.Is q) = front_of text at
-end_of text at Quad.None = length text
+end_of text at (Some q) = front_of text at
+end_of text at None = length text
 
 abbrev pub half_of : Quad → ℕ
-half_of (Quad.Is q) = q / 65536
-half_of Quad.None = 0
+half_of (Some q) = q / 65536
+half_of None = 0
 
-abbrev pub both_of : Wide → Quad → Address
-both_of w (Quad.Is q) = let x : Wide = push_of Form.Hexed (push_of Form.Hexed w (q / 65536)) (q % 65536) in Address.Is x.high x.low
-both_of w Quad.None = Address.Is w.high w.low
+abbrev pub both_of : Wide → Quad → Wide
+both_of w (Some q) = push_of Form.Hexed (push_of Form.Hexed w (q / 65536)) (q % 65536)
+both_of w None = w

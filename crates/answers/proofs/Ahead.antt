@@ -1,5 +1,6 @@
 -- What the lexer says at a place: a token has a byte at least, ends within the source, and its word is above 0 and below 90; else it
 -- is the end, or a refusal 4 or 5; 5 has two bytes of the source. And what is scanned as text.
+use Rattle.std.specs.Prelude.{Some, None, Ok, Err}
 use mathlib.Core.Path.{◌≡◌, refl, sym, ap, subst, ◌∙◌}
 use mathlib.Core.List.{List, [], ◌∷◌}
 use mathlib.Core.Bool.{Bool, true, false, not, ◌&&◌, ◌||◌, cond}
@@ -15,21 +16,20 @@ use Rattle.chars.specs.Chars.{byte_at, is_class, is_digit, is_letter}
 use Rattle.chars.specs.Runs.{past_span, past_run}
 use Rattle.chars.specs.Texts.{bytes, same}
 use Rattle.chars.proofs.Runs.{byte_out, outside, within, past_ge, past_le, past_gt, span_ge}
-use Rattle.tokens.specs.declared.Fit.{Fit}
-use Rattle.tokens.specs.declared.Fit.TheVariants.{To, No}
+use Rattle.tokens.specs.Results.{Fit}
 use Rattle.tokens.specs.declared.Cursor.{Cursor}
 use Rattle.tokens.specs.declared.Refusal.{Refusal}
-use Rattle.tokens.specs.declared.Step.{Step}
-use Rattle.tokens.specs.declared.Step.TheVariants.{Taken, Refused}
+use Rattle.tokens.specs.Results.{Step}
 use Rattle.tokens.specs.Words.{Entry, two_signs, one_signs, keywords, word_in, two_sign, one_sign, name_word}
 use Rattle.tokens.specs.Blanks.{skip_all}
 use Rattle.tokens.specs.Rules.{when_fit, sign_fit, then_fit, pair_at, colons_at, fraction_at, dotted_at, three_at, decimal_group, or_to, ipv6_at, period_at, ipv4_at, two_at, one_at, as_at, hex_at, number_at, goes_on, escapes, quote_at, is_name_start, name_at, taken, refused, or_else, token_at}
 use Rattle.tokens.specs.Tokens.{step_at}
-use Rattle.strings.specs.declared.Size.{Size}
+use Rattle.strings.specs.Results.{Size}
 use Rattle.strings.specs.Strings.{codes_from}
 use Rattle.strings.specs.Utf8.{encode}
+use Rattle.texts.specs.Results.{Scanned}
 use Rattle.texts.specs.declared.Part.{Part}
-use Rattle.texts.specs.declared.Part.TheVariants.{Before, Ends, None}
+use Rattle.texts.specs.declared.Part.TheVariants.{Before, Ends}
 use Rattle.texts.specs.Parts.{part_at}
 use Rattle.texts.specs.Texts.{halved, text_of}
 use Rattle.texts.proofs.Parts.{Parted, parted_before, parted_ends, parted_none, part_lies}
@@ -163,8 +163,8 @@ module _ (s : List ℕ) where
 
   -- how far a rule reaches from a place
   data Goes (at : ℕ) : Fit → Type 0 where
-    goes_to : {e w : ℕ} → at < e → e ≤ length s → 0 < w → w < 90 → Goes at (To e w)
-    goes_no : Goes at No
+    goes_to : {e w : ℕ} → at < e → e ≤ length s → 0 < w → w < 90 → Goes at (Some (e, w))
+    goes_no : Goes at None
 
   goes_when : {at e : ℕ} (b : Bool) (w : ℕ) → w < 90 → (b ≡ true → (at < e) × (e ≤ length s) × (0 < w)) → Goes at (when_fit b e w)
   unfolding when_fit
@@ -212,10 +212,10 @@ module _ (s : List ℕ) where
       goes_then _ h (goes_dotted a) λ b k m.
       goes_then _ (omega arith) (goes_dotted b) λ c k' m'. goes_from (omega arith) (goes_dotted c)
 
-  goes_ending : {at e : ℕ} (t : Bool) (f : Fit) → at < e → e ≤ length s → Goes at f → Goes at (or_to (cond t f No) e)
+  goes_ending : {at e : ℕ} (t : Bool) (f : Fit) → at < e → e ≤ length s → Goes at f → Goes at (or_to (cond t f None) e)
   unfolding or_to
-  goes_ending true (To r w) h k (goes_to l m p v) = goes_to {w = 1} l m (omega arith) (omega arith)
-  goes_ending true No h k goes_no = goes_to {w = 1} h k (omega arith) (omega arith)
+  goes_ending true (Some (r, w)) h k (goes_to l m p v) = goes_to {w = 1} l m (omega arith) (omega arith)
+  goes_ending true None h k goes_no = goes_to {w = 1} h k (omega arith) (omega arith)
   goes_ending false f h k g = goes_to {w = 1} h k (omega arith) (omega arith)
 
   goes_colons : (at : ℕ) → Goes at (colons_at s at)
@@ -315,10 +315,10 @@ module _ (s : List ℕ) where
 
   -- a step from a place: a token, the end, or a refusal 4 or 5
   pub data Steps (at : ℕ) : Step → Type 0 where
-    steps_token : {w a : ℕ} {next : Cursor} → at < next.at → next.at ≤ length s → 0 < w → w < 90 → Steps at (Taken w a next)
-    steps_over : Steps at (Refused (record { number = 11; start = length s; end = length s }))
-    steps_quote : {r : Refusal} → r.number ≡ 5 → at < r.end → r.end ≤ length s → Steps at (Refused r)
-    steps_wrong : {r : Refusal} → r.number ≡ 4 → Steps at (Refused r)
+    steps_token : {w a : ℕ} {next : Cursor} → at < next.at → next.at ≤ length s → 0 < w → w < 90 → Steps at (Ok (w, a, next))
+    steps_over : Steps at (Err (record { number = 11; start = length s; end = length s }))
+    steps_quote : {r : Refusal} → r.number ≡ 5 → at < r.end → r.end ≤ length s → Steps at (Err r)
+    steps_wrong : {r : Refusal} → r.number ≡ 4 → Steps at (Err r)
 
   steps_or : {at : ℕ} {f : Fit} {d : Step} → Goes at f → Steps at d → Steps at (or_else at f d)
   unfolding or_else taken
@@ -359,7 +359,7 @@ module _ (s : List ℕ) where
   unfolding step_at skip_all refused
   step_goes at = go (ltb (skip_all s at) (length s)) refl
     where
-      go : (b : Bool) → ltb (skip_all s at) (length s) ≡ b → Steps at (cond b (token_at s (skip_all s at)) (Refused (record { number = 11; start = length s; end = length s })))
+      go : (b : Bool) → ltb (skip_all s at) (length s) ≡ b → Steps at (cond b (token_at s (skip_all s at)) (Err (record { number = 11; start = length s; end = length s })))
       go true e = steps_from (omega arith) (steps_at (skip_all s at) (ltb→lt (skip_all s at) (length s) (true_T e)))
       go false e = steps_over
 
@@ -376,10 +376,10 @@ module _ (s : List ℕ) where
       after false false r h f = let z : ◌≡◌ {A = ℕ} 0 1 = cc in absurd (omega arith)
 
       go : (k : Step) → Steps i k → look_of s k ≡ found x j → ahead j < ahead i
-      go (Taken w a next) (steps_token h m p v) q = let z : next.at ≡ j = cc in omega arith
-      go (Refused r) (steps_quote c l m) q = after (eqb r.number 11) (eqb r.number 5) r (λ t. (l, m)) q
-      go (Refused r) steps_over q = let z : ◌≡◌ {A = ℕ} 0 1 = cc in absurd (omega arith)
-      go (Refused r) (steps_wrong c) q = after (eqb r.number 11) (eqb r.number 5) r (λ t. let z : ◌≡◌ {A = ℕ} 4 5 = sym c ∙ eqb→eq r.number 5 t in absurd (omega (arith, z))) q
+      go (Ok (w, a, next)) (steps_token h m p v) q = let z : next.at ≡ j = cc in omega arith
+      go (Err r) (steps_quote c l m) q = after (eqb r.number 11) (eqb r.number 5) r (λ t. (l, m)) q
+      go (Err r) steps_over q = let z : ◌≡◌ {A = ℕ} 0 1 = cc in absurd (omega arith)
+      go (Err r) (steps_wrong c) q = after (eqb r.number 11) (eqb r.number 5) r (λ t. let z : ◌≡◌ {A = ℕ} 4 5 = sym c ∙ eqb→eq r.number 5 t in absurd (omega (arith, z))) q
 
   -- a piece that has a row has a byte
   no_text_row : (i e : ℕ) → e ≡ i → token_nodes (text_token text_then_hole i e (text_of (slice i e s))) ≡ 0
@@ -390,20 +390,20 @@ module _ (s : List ℕ) where
   pieces_take x i j e = go (part_at s i) (part_lies s i) e
     where
       most : (w a b : ℕ) (z : Size) → token_nodes (text_token w a b z) ≤ 1
-      most w a b (Size.Is n) = two (one_of w (text_then_hole ∷ last_text ∷ [])) (eqb n 0)
+      most w a b (Some n) = two (one_of w (text_then_hole ∷ last_text ∷ [])) (eqb n 0)
         where
           two : (c d : Bool) → cond c (cond d 0 1) 0 ≤ 1
           two true true = omega arith
           two true false = omega arith
           two false d = omega arith
-      most w a b Size.None = two (one_of w (text_then_hole ∷ last_text ∷ []))
+      most w a b None = two (one_of w (text_then_hole ∷ last_text ∷ []))
         where
           two : (c : Bool) → cond c 0 0 ≤ 1
           two true = omega arith
           two false = omega arith
 
-      go : (k : Part) → Parted i (length s) k → piece_of s i k ≡ found x j → ahead j + token_nodes x ≤ ahead i
-      go (Before e) (parted_before h m) q =
+      go : (k : Scanned) → Parted i (length s) k → piece_of s i k ≡ found x j → ahead j + token_nodes x ≤ ahead i
+      go (Some (Before e)) (parted_before h m) q =
           let z : e ≡ j = cc in
           let y : text_token text_then_hole i e (text_of (slice i e s)) ≡ x = cc in
           let n = most text_then_hole i e (text_of (slice i e s)) in
@@ -412,7 +412,7 @@ module _ (s : List ℕ) where
             | yes f ↦ (let o = no_text_row i e (omega arith) in omega (arith, z, o, n', h, m))
             | no f ↦ omega (arith, z, n, n', h, m, f)
           ]
-      go (Ends e) (parted_ends h m) q =
+      go (Some (Ends e)) (parted_ends h m) q =
           let z : e + 1 ≡ j = cc in
           let y : text_token last_text i e (text_of (slice i e s)) ≡ x = cc in
           let n = most last_text i e (text_of (slice i e s)) in

@@ -1,4 +1,5 @@
 -- What the theory says of a source's bytes: the rows are bounded, and there is an answer.
+use Rattle.std.specs.Prelude.{Ok, Err}
 use mathlib.Core.Path.{◌≡◌, refl}
 use mathlib.Core.List.{List}
 use mathlib.Core.Bool.{Bool}
@@ -6,8 +7,7 @@ use Prim.Native.Nat.{ℕ, ◌+◌, ◌*◌, ◌≤◌}
 use lib.ListN.{length, replicate}
 use native.Mathlib.Omega.{arith}
 use Rattle.chars.specs.declared.Answer as chars
-use Rattle.tokens.specs.declared.Whole.{Whole}
-use Rattle.tokens.specs.declared.Whole.TheVariants.{Fine, Refused as Bad}
+use Rattle.tokens.specs.Results.{Whole}
 use Rattle.tokens.specs.Tokens.{whole_of, refusal}
 use Rattle.grammar.specs.Grammar.{Token, found, Parts}
 use Rattle.grammar.specs.Readings.{Text}
@@ -35,5 +35,5 @@ module _ (tests tree : Bool) (s : List ℕ) where
       kept_back x i j e = let q = pieces_take s x i j e in omega arith
 
       go : (w : Whole) → whole_of s ≡ w → (a : chars.Answer) × (t : List ℕ) × Permitted tests tree s size a t
-      go (Bad r) e = (refusal r, replicate size 0, early e)
-      go Fine e = let g = an_answer (source s) tests tree (length s) (ahead s) (tokens_take s) kept_back 0 in (answer_for (length s) size g.0, table_for size g.0, read e g.1)
+      go (Err r) e = (refusal r, replicate size 0, early e)
+      go (Ok tt) e = let g = an_answer (source s) tests tree (length s) (ahead s) (tokens_take s) kept_back 0 in (answer_for (length s) size g.0, table_for size g.0, read e g.1)

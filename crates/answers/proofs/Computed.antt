@@ -1,4 +1,5 @@
 -- A computed outcome is permitted; and so is each of a table's.
+use Rattle.std.specs.Prelude.{Ok, Err}
 use mathlib.Core.Path.{◌≡◌, refl, subst}
 use mathlib.Core.List.{List, [], ◌∷◌}
 use mathlib.Core.Bool.{Bool}
@@ -7,8 +8,7 @@ use Prim.Native.Nat.{ℕ}
 use lib.ListN.{length, replicate}
 use native.Mathlib.Omega.{arith}
 use Rattle.chars.specs.declared.Answer.{Answer}
-use Rattle.tokens.specs.declared.Whole.{Whole}
-use Rattle.tokens.specs.declared.Whole.TheVariants.{Fine, Refused}
+use Rattle.tokens.specs.Results.{Whole}
 use Rattle.tokens.specs.Tokens.{whole_of, refusal}
 use Rattle.grammar.specs.Answers as grammar
 use Rattle.grammar.specs.Compute.{answer}
@@ -19,17 +19,17 @@ use Rattle.answers.specs.Compute.{Outcome, outcome_of, outcome_after, outcome}
 use Rattle.answers.specs.Cases.{Case, Each, table}
 
 module _ (s : List ℕ) (size fuel : ℕ) (tests tree : Bool) where
-  of_means : {o : Outcome} (g : Option grammar.Answer) → answer (source s) tests tree (length s) fuel 0 ≡ g → whole_of s ≡ Fine → outcome_of s size g ≡ some o → Permitted tests tree s size o.answer o.table
+  of_means : {o : Outcome} (g : Option grammar.Answer) → answer (source s) tests tree (length s) fuel 0 ≡ g → whole_of s ≡ (Ok tt) → outcome_of s size g ≡ some o → Permitted tests tree s size o.answer o.table
   of_means none e f q = let z : ◌≡◌ {A = ℕ} 0 1 = cc in absurd (omega arith)
   of_means {o} (some g) e f q =
       let z : record { answer = answer_for (length s) size g; table = table_for size g } ≡ o = cc in
       subst (λ (x : Outcome). Permitted tests tree s size x.answer x.table) z (read f (answer_means (source s) tests tree (length s) fuel e))
 
   after_means : {o : Outcome} (w : Whole) → whole_of s ≡ w → outcome_after s size fuel tests tree w ≡ some o → Permitted tests tree s size o.answer o.table
-  after_means {o} (Refused r) e q =
+  after_means {o} (Err r) e q =
       let z : record { answer = refusal r; table = replicate size 0 } ≡ o = cc in
       subst (λ (x : Outcome). Permitted tests tree s size x.answer x.table) z (early e)
-  after_means Fine e q = of_means (answer (source s) tests tree (length s) fuel 0) refl e q
+  after_means (Ok tt) e q = of_means (answer (source s) tests tree (length s) fuel 0) refl e q
 
   pub outcome_means : {o : Outcome} → outcome s size fuel tests tree ≡ some o → Permitted tests tree s size o.answer o.table
   unfolding outcome

@@ -1,4 +1,5 @@
 -- C-24 holds of bytes: the places over which the grammar's theorems speak are those of the lexer's list.
+use Rattle.std.specs.Prelude.{Ok, Err}
 use mathlib.Core.Path.{◌≡◌, refl, sym, ap, subst, ◌∙◌}
 use mathlib.Core.List.{List, [], ◌∷◌, ◌++◌, map, append_assoc, append-nil}
 use mathlib.Core.Bool.{Bool, true, false, cond}
@@ -12,8 +13,7 @@ use Rattle.chars.specs.declared.Answer.{Answer}
 use Rattle.tokens.specs.declared.Token as lexer
 use Rattle.tokens.specs.declared.Cursor.{Cursor}
 use Rattle.tokens.specs.declared.Refusal.{Refusal}
-use Rattle.tokens.specs.declared.Step.{Step}
-use Rattle.tokens.specs.declared.Step.TheVariants.{Taken, Refused}
+use Rattle.tokens.specs.Results.{Step}
 use Rattle.tokens.specs.Words.{code_of}
 use Rattle.tokens.specs.Tokens.{step_at, token_of, Listed, list_from, list_of}
 use Rattle.tokens.proofs.Lists.{list_taken, list_refused}
@@ -42,13 +42,13 @@ module _ (s : List ℕ) where
   literal w a e = token_for w a e (literal_of (code_of w) (slice a e s))
 
   module _ (n at : ℕ) where
-    pub tokens_taken : {w a : ℕ} {next : Cursor} → step_at s at ≡ Taken w a next → tokens_from (suc n) s at ≡ literal w a next.at ∷ tokens_from n s next.at
+    pub tokens_taken : {w a : ℕ} {next : Cursor} → step_at s at ≡ Ok (w, a, next) → tokens_from (suc n) s at ≡ literal w a next.at ∷ tokens_from n s next.at
     unfolding tokens_from
-    tokens_taken e = ap (λ (x : Step). elim x [ Taken w a next ↦ literal w a next.at ∷ tokens_from n s next.at | Refused r ↦ [] ]) e
+    tokens_taken e = ap (λ (x : Step). elim x [ Ok (w, a, next) ↦ literal w a next.at ∷ tokens_from n s next.at | Err r ↦ [] ]) e
 
-    pub tokens_refused : {r : Refusal} → step_at s at ≡ Refused r → tokens_from (suc n) s at ≡ []
+    pub tokens_refused : {r : Refusal} → step_at s at ≡ Err r → tokens_from (suc n) s at ≡ []
     unfolding tokens_from
-    tokens_refused e = ap (λ (x : Step). elim x [ Taken w a next ↦ literal w a next.at ∷ tokens_from n s next.at | Refused r ↦ [] ]) e
+    tokens_refused e = ap (λ (x : Step). elim x [ Ok (w, a, next) ↦ literal w a next.at ∷ tokens_from n s next.at | Err r ↦ [] ]) e
 
   -- the tokens are those of the list of (c)
   same_list : (n at : ℕ) → map listed (tokens_from n s at) ≡ (list_from n s at).tokens
@@ -57,8 +57,8 @@ module _ (s : List ℕ) where
   same_list (suc n) at = go (step_at s at) refl λ next. same_list n next
     where
       go : (x : Step) → step_at s at ≡ x → ((next : ℕ) → map listed (tokens_from n s next) ≡ (list_from n s next).tokens) → map listed (tokens_from (suc n) s at) ≡ (list_from (suc n) s at).tokens
-      go (Taken w a next) e rest = ap (map listed) (tokens_taken n at e) ∙ ap (λ (l : List lexer.Token). token_of w a next ∷ l) (rest next.at) ∙ sym (ap (λ (l : Listed). l.tokens) (list_taken n s at e))
-      go (Refused r) e rest = ap (map listed) (tokens_refused n at e) ∙ sym (ap (λ (l : Listed). l.tokens) (list_refused n s at e))
+      go (Ok (w, a, next)) e rest = ap (map listed) (tokens_taken n at e) ∙ ap (λ (l : List lexer.Token). token_of w a next ∷ l) (rest next.at) ∙ sym (ap (λ (l : Listed). l.tokens) (list_taken n s at e))
+      go (Err r) e rest = ap (map listed) (tokens_refused n at e) ∙ sym (ap (λ (l : Listed). l.tokens) (list_refused n s at e))
 
   -- what is seen from a place with so many steps left: what stands there, the tokens, and how their list ends
   data Seen (n at : ℕ) : Look ℕ → Type 0 where
@@ -70,14 +70,14 @@ module _ (s : List ℕ) where
   seen : (n at : ℕ) → Seen n at ((source s).look at)
   seen n at = go (step_at s at) refl (step_goes s at)
     where
-      ending : {r : Refusal} → step_at s at ≡ Refused r → (list_from (suc n) s at).ending ≡ r
+      ending : {r : Refusal} → step_at s at ≡ Err r → (list_from (suc n) s at).ending ≡ r
       ending e = ap (λ (l : Listed). l.ending) (list_refused n s at e)
 
       go : (x : Step) → step_at s at ≡ x → Steps s at x → Seen n at (look_of s x)
-      go (Taken w a next) e (steps_token h k p v) = seen_token (tokens_taken n at e) (ap (λ (l : Listed). l.ending) (list_taken n s at e)) (λ q. omega arith)
-      go (Refused r) e steps_over = seen_over (tokens_refused n at e) (ending e)
-      go (Refused r) e (steps_quote c l m) = subst (λ (k : ℕ). Seen n at (look_after (eqb k 11) (eqb k 5) r)) (sym c) (seen_quote (ap (λ (x : Refusal). x.number) (ending e) ∙ c))
-      go (Refused r) e (steps_wrong c) = subst (λ (k : ℕ). Seen n at (look_after (eqb k 11) (eqb k 5) r)) (sym c) (seen_wrong (tokens_refused n at e) (ending e))
+      go (Ok (w, a, next)) e (steps_token h k p v) = seen_token (tokens_taken n at e) (ap (λ (l : Listed). l.ending) (list_taken n s at e)) (λ q. omega arith)
+      go (Err r) e steps_over = seen_over (tokens_refused n at e) (ending e)
+      go (Err r) e (steps_quote c l m) = subst (λ (k : ℕ). Seen n at (look_after (eqb k 11) (eqb k 5) r)) (sym c) (seen_quote (ap (λ (x : Refusal). x.number) (ending e) ∙ c))
+      go (Err r) e (steps_wrong c) = subst (λ (k : ℕ). Seen n at (look_after (eqb k 11) (eqb k 5) r)) (sym c) (seen_wrong (tokens_refused n at e) (ending e))
 
   -- what is seen of a token that stands there, in a source of which (c) doesn't say 5
   record Goes (n i j : ℕ) (x : Token) : Type 0 where

@@ -1,4 +1,5 @@
 -- Two answers to one source coincide, and so do the tables; a source is accepted exactly when it has a reading.
+use Rattle.std.specs.Prelude.{Ok, Err}
 use mathlib.Core.Path.{◌≡◌, refl, sym, ap, subst}
 use mathlib.Core.List.{List, ◌++◌}
 use mathlib.Core.Bool.{Bool, true, false, ◌||◌, cond}
@@ -11,8 +12,7 @@ use Rattle.chars.specs.Chars.{is_class}
 use Rattle.chars.specs.Runs.{past_run}
 use Rattle.tokens.specs.declared.Refusal.{Refusal}
 use Rattle.chars.specs.declared.Answer.{Answer}
-use Rattle.tokens.specs.declared.Whole.{Whole}
-use Rattle.tokens.specs.declared.Whole.TheVariants.{Fine, Refused as Bad}
+use Rattle.tokens.specs.Results.{Whole}
 use Rattle.tokens.specs.Rules.{pair_at}
 use Rattle.tokens.specs.Tokens.{whole_of, refusal, counted}
 use Rattle.grammar.specs.Grammar.{Parts}
@@ -29,8 +29,8 @@ use Rattle.answers.specs.Entries.{room, answer_for, table_for, Permitted, early,
 
 -- 1, 2, 3 come before
 data Tested : Whole → Type 0 where
-  tested_fine : Tested Fine
-  tested_bad : {r : Refusal} → 1 ≤ r.number → r.number ≤ 3 → Tested (Bad r)
+  tested_fine : Tested (Ok tt)
+  tested_bad : {r : Refusal} → 1 ≤ r.number → r.number ≤ 3 → Tested (Err r)
 
 tested_pick : (b : Bool) {x d : Whole} → Tested x → Tested d → Tested (cond b x d)
 tested_pick true h k = h
@@ -45,12 +45,12 @@ tested_whole s =
     (tested_pick (pair_at s 0 35 33) (tested_bad (omega arith) (omega arith))
     tested_fine))
 
-pub whole_number : (s : List ℕ) (r : Refusal) → whole_of s ≡ Bad r → (1 ≤ r.number) × (r.number ≤ 3)
+pub whole_number : (s : List ℕ) (r : Refusal) → whole_of s ≡ Err r → (1 ≤ r.number) × (r.number ≤ 3)
 whole_number s r e = go (whole_of s) (tested_whole s) e
   where
-    go : (w : Whole) → Tested w → w ≡ Bad r → (1 ≤ r.number) × (r.number ≤ 3)
-    go Fine h q = let z : ◌≡◌ {A = ℕ} 0 1 = cc in absurd (omega arith)
-    go (Bad r') (tested_bad h i) q = let k : r' ≡ r = cc in subst (λ (x : Refusal). (1 ≤ x.number) × (x.number ≤ 3)) k (h, i)
+    go : (w : Whole) → Tested w → w ≡ Err r → (1 ≤ r.number) × (r.number ≤ 3)
+    go (Ok tt) h q = let z : ◌≡◌ {A = ℕ} 0 1 = cc in absurd (omega arith)
+    go (Err r') (tested_bad h i) q = let k : r' ≡ r = cc in subst (λ (x : Refusal). (1 ≤ x.number) × (x.number ≤ 3)) k (h, i)
 
 zero_refusal : (n : ℕ) → T (is_refusal n) → n ≡ 0 → ⊥
 zero_refusal n h e = let k = leb→le 4 n (and_l (leb 4 n) (leb n 9 || eqb n 11) h) in omega arith
@@ -95,5 +95,5 @@ module _ (tests tree : Bool) (s : List ℕ) (size : ℕ) where
   accepted_reads (read e (leaves u h)) q = absurd (zero_refusal _ (refused_number (source s) tests tree (length s) (look_number s) _ (leaves u h) refl) q)
 
   -- and every source that has a reading and passes 1, 2 and 3 is accepted, where there is room
-  pub reading_accepted : {p : Parts} → whole_of s ≡ Fine → Text (source s) (roto tests) (goal tree) 0 p → Permitted tests tree s size (counted (length s) (length (rows tree (length s) p)) (room size)) (table_for size (accepted (rows tree (length s) p)))
+  pub reading_accepted : {p : Parts} → whole_of s ≡ (Ok tt) → Text (source s) (roto tests) (goal tree) 0 p → Permitted tests tree s size (counted (length s) (length (rows tree (length s) p)) (room size)) (table_for size (accepted (rows tree (length s) p)))
   reading_accepted e x = read e (accepts x)

@@ -1,4 +1,5 @@
 -- C-24: the token that an answer names is one alone, and so is the first that can't go there; worked sources.
+use Rattle.std.specs.Prelude.{None, Ok, Err}
 use mathlib.Core.Path.{◌≡◌, refl, sym, ap, subst, ◌∙◌}
 use mathlib.Core.List.{List, [], ◌∷◌, ◌++◌, append_assoc, head-eq_of_cons-eq, tail-eq_of_cons-eq}
 use mathlib.Core.Bool.{Bool, true, false}
@@ -7,11 +8,10 @@ use lib.ListN.{length}
 use native.Mathlib.Omega.{arith}
 use Rattle.chars.specs.Texts.{bytes}
 use Rattle.chars.specs.declared.Answer.{Answer}
-use Rattle.tokens.specs.declared.Step.{Step}
-use Rattle.tokens.specs.declared.Step.TheVariants.{Taken, Refused}
+use Rattle.tokens.specs.Results.{Step}
 use Rattle.tokens.specs.Tokens.{step_at, list_from, list_of}
 use Rattle.tokens.proofs.Steps.{taken_good}
-use Rattle.values.specs.declared.Literal.{Literal}
+use Rattle.values.specs.Results.{Worth}
 use Rattle.grammar.specs.Words.{name, '==', ':', 'test'}
 use Rattle.grammar.specs.Grammar.{Token}
 use Rattle.grammar.specs.Culprit.{FreeText}
@@ -51,8 +51,8 @@ rising s zero at = rising_end
 rising s (suc n) at = go (step_at s at) refl λ next. rising s n next
   where
     go : (x : Step) → step_at s at ≡ x → ((next : ℕ) → Rising next (tokens_from n s next)) → Rising at (tokens_from (suc n) s at)
-    go (Taken w a next) e rest = let g = taken_good s at e in subst (Rising at) (sym (tokens_taken s n at e)) (rising_on g.0 g.1 (rest next.at))
-    go (Refused r) e rest = subst (Rising at) (sym (tokens_refused s n at e)) rising_end
+    go (Ok (w, a, next)) e rest = let g = taken_good s at e in subst (Rising at) (sym (tokens_taken s n at e)) (rising_on g.0 g.1 (rest next.at))
+    go (Err r) e rest = subst (Rising at) (sym (tokens_refused s n at e)) rising_end
 
 -- so one that stands behind starts later
 later : {at : ℕ} (b r : List Token) (x : Token) → Rising at (b ++ (x ∷ r)) → at ≤ x.start
@@ -105,7 +105,7 @@ module _ (tests tree : Bool) (s before with_it : List ℕ) {size : ℕ} {a : Ans
       (subst (Begins tests tree) o.0 w.1, λ b. w.2 (subst (Begins tests tree) (sym u) b))
 
 abbrev sign : ℕ → ℕ → ℕ → Token
-sign w a e = token_for w a e Literal.None
+sign w a e = token_for w a e None
 
 pub worked_culprits : WorkedCulprits
 unfolding lexer values list_of list_from tokens_of tokens_from worked cases bytes

@@ -1,4 +1,5 @@
 -- The numbers with which the lexer refuses.
+use Rattle.std.specs.Prelude.{Ok, Err}
 use mathlib.Core.Path.{◌≡◌, sym, subst, ◌∙◌}
 use mathlib.Core.List.{List}
 use mathlib.Core.Bool.{Bool, true, false, not}
@@ -6,8 +7,7 @@ use Prim.Native.Nat.{ℕ, ◌<◌}
 use lib.Dec.{T, eqb, T_not}
 use native.Mathlib.Omega.{arith}
 use Rattle.tokens.specs.declared.Refusal.{Refusal}
-use Rattle.tokens.specs.declared.Step.{Step}
-use Rattle.tokens.specs.declared.Step.TheVariants.{Taken, Refused}
+use Rattle.tokens.specs.Results.{Step}
 use Rattle.tokens.specs.Tokens.{step_at}
 use Rattle.grammar.specs.Grammar.{wrong}
 use Rattle.grammar.proofs.Demand.{is_refusal}
@@ -24,10 +24,10 @@ number_of s at n a b e = go (step_at s at) (step_goes s at) e
     after false false r h f = let k : r.number ≡ n = cc in sym k ∙ h tt
 
     go : (k : Step) → Steps s at k → look_of s k ≡ wrong n a b → n ≡ 4
-    go (Taken w a next) h q = let z : ◌≡◌ {A = ℕ} 0 1 = cc in absurd (omega arith)
-    go (Refused r) steps_over q = let z : ◌≡◌ {A = ℕ} 0 1 = cc in absurd (omega arith)
-    go (Refused r) (steps_quote h l m) q = after (eqb r.number 11) (eqb r.number 5) r (λ t. absurd (T_not (eqb r.number 5) t (subst (λ (x : ℕ). T (eqb x 5)) (sym h) tt))) q
-    go (Refused r) (steps_wrong h) q = after (eqb r.number 11) (eqb r.number 5) r (λ t. h) q
+    go (Ok (w, a, next)) h q = let z : ◌≡◌ {A = ℕ} 0 1 = cc in absurd (omega arith)
+    go (Err r) steps_over q = let z : ◌≡◌ {A = ℕ} 0 1 = cc in absurd (omega arith)
+    go (Err r) (steps_quote h l m) q = after (eqb r.number 11) (eqb r.number 5) r (λ t. absurd (T_not (eqb r.number 5) t (subst (λ (x : ℕ). T (eqb x 5)) (sym h) tt))) q
+    go (Err r) (steps_wrong h) q = after (eqb r.number 11) (eqb r.number 5) r (λ t. h) q
 
 pub look_number : (s : List ℕ) (at n a b : ℕ) → (source s).look at ≡ wrong n a b → T (is_refusal n)
 look_number s at n a b e = subst (λ (x : ℕ). T (is_refusal x)) (sym (number_of s at n a b e)) tt

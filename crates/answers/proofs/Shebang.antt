@@ -1,4 +1,5 @@
 -- A source that begins `#!` has no reading; so one that has a reading, of at most 65,535 bytes below 128, passes 1, 2 and 3.
+use Rattle.std.specs.Prelude.{Ok, Err}
 use mathlib.Core.Path.{◌≡◌, refl, sym, ap, subst, ◌∙◌}
 use mathlib.Core.List.{List, [], ◌∷◌}
 use mathlib.Core.Bool.{Bool, true, false, ◌&&◌, true≢false}
@@ -13,8 +14,6 @@ use Rattle.chars.specs.declared.Class.TheVariants.{Ascii}
 use Rattle.chars.specs.Chars.{byte_at, is_class}
 use Rattle.chars.specs.Runs.{past_run}
 use Rattle.chars.proofs.Runs.{byte_in, byte_out, past_stops, outside}
-use Rattle.tokens.specs.declared.Step.TheVariants.{Refused}
-use Rattle.tokens.specs.declared.Whole.TheVariants.{Fine}
 use Rattle.tokens.specs.Rules.{pair_at}
 use Rattle.tokens.specs.Tokens.{step_at, whole_of}
 use Rattle.grammar.specs.Words.{f_quote}
@@ -55,7 +54,7 @@ wrong_none S tests tree {n} {a} {b} {i} w x =
     omega arith
 
 -- no token starts with `#`
-hash : (l : List ℕ) → step_at (35 ∷ 33 ∷ l) 0 ≡ Refused (record { number = 4; start = 0; end = 1 })
+hash : (l : List ℕ) → step_at (35 ∷ 33 ∷ l) 0 ≡ Err (record { number = 4; start = 0; end = 1 })
 unfolding lexer
 hash l = simp (lt-ltb 0 (length (35 ∷ 33 ∷ l)) (omega arith))
 
@@ -93,13 +92,13 @@ all_low s low = elim (dec_lt (past_run (is_class Ascii) s 0) (length s)) [
 ]
 
 -- one that doesn't begin so, of at most 65,535 bytes below 128, passes 1, 2 and 3
-pub low_fine : (s : List ℕ) → length s ≤ 65535 → ((at : ℕ) → at < length s → byte_at s at < 128) → pair_at s 0 35 33 ≡ false → whole_of s ≡ Fine
+pub low_fine : (s : List ℕ) → length s ≤ 65535 → ((at : ℕ) → at < length s → byte_at s at < 128) → pair_at s 0 35 33 ≡ false → whole_of s ≡ (Ok tt)
 unfolding whole_of
 low_fine s short low e = rw (le-ltb 65535 (length s) short, le-ltb (past_run (is_class Ascii) s 0) (length s) (all_low s low), e)
 
-pub reading_fine : (tests tree : Bool) (s : List ℕ) {p : Parts} → length s ≤ 65535 → ((at : ℕ) → at < length s → byte_at s at < 128) → Text (source s) (roto tests) (goal tree) 0 p → whole_of s ≡ Fine
+pub reading_fine : (tests tree : Bool) (s : List ℕ) {p : Parts} → length s ≤ 65535 → ((at : ℕ) → at < length s → byte_at s at < 128) → Text (source s) (roto tests) (goal tree) 0 p → whole_of s ≡ (Ok tt)
 reading_fine tests tree s short low x = go (pair_at s 0 35 33) refl
   where
-    go : (b : Bool) → pair_at s 0 35 33 ≡ b → whole_of s ≡ Fine
+    go : (b : Bool) → pair_at s 0 35 33 ≡ b → whole_of s ≡ (Ok tt)
     go true e = absurd (shebang_none tests tree s e x)
     go false e = low_fine s short low e

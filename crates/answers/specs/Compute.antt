@@ -1,9 +1,8 @@
 -- The answers of (a) and (b), for computing: none where the fuel is spent.
-use Rattle.std.specs.Prelude.{List, Bool, ℕ, length, replicate}
+use Rattle.std.specs.Prelude.{Ok, Err, List, Bool, ℕ, length, replicate}
 use Rattle.std.proofs.Math.Option.{Option, none, some}
 use Rattle.chars.specs.declared.Answer.{Answer}
-use Rattle.tokens.specs.declared.Whole.{Whole}
-use Rattle.tokens.specs.declared.Whole.TheVariants.{Fine, Refused}
+use Rattle.tokens.specs.Results.{Whole}
 use Rattle.tokens.specs.Tokens.{whole_of, refusal}
 use Rattle.grammar.specs.Answers as grammar
 use Rattle.grammar.specs.Compute.{answer}
@@ -21,8 +20,8 @@ module _ (s : List ℕ) (size : ℕ) where
 
   module _ (fuel : ℕ) (tests tree : Bool) where
     abbrev pub outcome_after : Whole → Option Outcome
-    outcome_after (Refused r) = some (record { answer = refusal r; table = replicate size 0 })
-    outcome_after Fine = outcome_of (answer (source s) tests tree (length s) fuel 0)
+    outcome_after (Err r) = some (record { answer = refusal r; table = replicate size 0 })
+    outcome_after (Ok tt) = outcome_of (answer (source s) tests tree (length s) fuel 0)
 
     unfoldable pub outcome : Option Outcome
     outcome = outcome_after (whole_of s)

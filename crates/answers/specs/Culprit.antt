@@ -2,13 +2,12 @@
 -- it begin some text of the grammar, with limits and room set aside and literals taken as good, and with the named token added
 -- they begin none. For 11, the whole source begins some text. Refusal 8 and sources with f-strings are left out."
 -- `tree`: (a), else (b); `tests`: whether `test` is a declaration; `size`: how many numbers the lent table has.
-use Rattle.std.specs.Prelude.{◌≡◌, List, [], ◌∷◌, ◌++◌, map, Bool, true, false, ◌≢◌, ℕ, zero, suc, ◌+◌, length}
+use Rattle.std.specs.Prelude.{Ok, Err, ◌≡◌, List, [], ◌∷◌, ◌++◌, map, Bool, true, false, ◌≢◌, ℕ, zero, suc, ◌+◌, length}
 use Prim.Native.String.{String}
 use Rattle.std.proofs.Math.Seq.{slice}
 use Rattle.chars.specs.Texts.{bytes}
 use Rattle.chars.specs.declared.Answer.{Answer}
 use Rattle.tokens.specs.declared.Token as lexer
-use Rattle.tokens.specs.declared.Step.TheVariants.{Taken, Refused}
 use Rattle.tokens.specs.Words.{code_of}
 use Rattle.tokens.specs.Tokens.{step_at, list_of}
 use Rattle.values.specs.Literals.{literal_of}
@@ -20,7 +19,7 @@ use Rattle.answers.specs.Entries.{Permitted}
 -- The tokens of a source, step by step, each with its word: up to the end, or to what is no token.
 unfoldable pub tokens_from : ℕ → List ℕ → ℕ → List Token
 tokens_from zero s at = []
-tokens_from (suc n) s at = elim (step_at s at) [ Taken w a next ↦ token_for w a next.at (literal_of (code_of w) (slice a next.at s)) ∷ tokens_from n s next.at | Refused r ↦ [] ]
+tokens_from (suc n) s at = elim (step_at s at) [ Ok (w, a, next) ↦ token_for w a next.at (literal_of (code_of w) (slice a next.at s)) ∷ tokens_from n s next.at | Err r ↦ [] ]
 
 unfoldable pub tokens_of : List ℕ → List Token
 tokens_of s = tokens_from (length s + 1) s 0

@@ -1,9 +1,8 @@
 -- The complete answers of (a), source to tree, and (b), source to one expression: number, place and count, and the final
 -- content of the lent table.
-use Rattle.std.specs.Prelude.{◌≡◌, List, ◌++◌, Bool, cond, ℕ, ◌-◌, ◌*◌, ◌/◌, leb, length, replicate}
+use Rattle.std.specs.Prelude.{Ok, Err, ◌≡◌, List, ◌++◌, Bool, cond, ℕ, ◌-◌, ◌*◌, ◌/◌, leb, length, replicate}
 use Rattle.tokens.specs.declared.Refusal.{Refusal}
 use Rattle.chars.specs.declared.Answer.{Answer}
-use Rattle.tokens.specs.declared.Whole.TheVariants.{Fine, Refused}
 use Rattle.tokens.specs.Tokens.{whole_of, refusal, counted}
 use Rattle.rows.specs.Rows.{width}
 use Rattle.grammar.specs.Rows.{flat}
@@ -29,5 +28,5 @@ table_for size (refused r) = replicate size 0
 -- then what the grammar says from the first byte on, and 10 "exactly when nothing else refuses and the count exceeds the
 -- room". `tree`: (a), else (b); `tests`: whether `test` is a declaration.
 pub data Permitted (tests tree : Bool) (s : List ℕ) (size : ℕ) : Answer → List ℕ → Type 0 where
-  early : {r : Refusal} → whole_of s ≡ Refused r → Permitted tests tree s size (refusal r) (replicate size 0)
-  read : {g : grammar.Answer} → whole_of s ≡ Fine → Answers (source s) tests tree (length s) 0 g → Permitted tests tree s size (answer_for (length s) size g) (table_for size g)
+  early : {r : Refusal} → whole_of s ≡ Err r → Permitted tests tree s size (refusal r) (replicate size 0)
+  read : {g : grammar.Answer} → whole_of s ≡ (Ok tt) → Answers (source s) tests tree (length s) 0 g → Permitted tests tree s size (answer_for (length s) size g) (table_for size g)

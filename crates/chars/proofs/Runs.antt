@@ -2,15 +2,16 @@
 use mathlib.Core.Path.{◌≡◌, refl, sym, ap, ◌∙◌, subst}
 use Prim.Native.Nat.{ℕ, zero, suc, ◌+◌, ◌-◌, ◌<◌, ◌≤◌, zero-le, suc-le-suc}
 use mathlib.Core.List.{List, [], ◌∷◌}
-use mathlib.Core.Bool.{Bool, true, false, true≢false, ◌||◌}
+use mathlib.Core.Bool.{Bool, true, false, true≢false}
 use native.Mathlib.Nat.{add-zero, add-suc, suc-add}
 use native.Mathlib.Numerals.{add-one}
 use native.Mathlib.Decide.{dec_lt}
 use native.Mathlib.Omega.{arith}
-use lib.ListN.{length, get_or, drop, length-drop, drop_of_length-le}
-use lib.Seq.{drop-cons, get_or-drop}
+use lib.ListN.{length, get_or, take, drop, length-take, length-drop, drop_of_length-le}
+use lib.Seq.{drop-cons, get_or-take, get_or-drop}
 use lib.Dec.{eqb, leb}
 use borrow.Author.Tests.{le-ltb, lt-ltb, leb-false, eq-eqb, ne_eqb, eqb-true}
+use Rattle.std.specs.List.{All, AllWithin}
 use Rattle.chars.specs.declared.Class.{Class}
 use Rattle.chars.specs.declared.Class.TheVariants.{Ascii, Blank, Line, Digit, Figure, HexDigit, HexColon, NamePart}
 use Rattle.chars.specs.Chars.{byte_at, is_class}
@@ -143,25 +144,47 @@ module _ (p : ℕ → Bool) (none : p 256 ≡ false) (s : List ℕ) where
   past_stops =
       along (λ i. p (byte_at s (past_run p s i)) ≡ false) (λ i e. ap (λ j. p (byte_at s j)) (past_done p none s i e) ∙ e) λ i e h. ap (λ j. p (byte_at s j)) (sym (past_more p none s i e)) ∙ h
 
--- a turn of the loop of `past`, which reads the byte b and tests it
-module _ (k : Class) (s : List ℕ) (i : ℕ) {b : ℕ} {t : Bool} (at_i : b ≡ byte_at s i) (test : t ≡ is_class k b) where
-  said : {u : Bool} → t ≡ u → is_class k (byte_at s i) ≡ u
-  said e = ap (is_class k) (sym at_i) ∙ sym test ∙ e
+-- past bytes that are kept and leave the state as it is, the scan goes on as from before them
+module _ (keep next : Bool → ℕ → Bool) (c : Bool) (none : keep c 256 ≡ false) (s : List ℕ) where
+  abbrev pub Goes : ℕ → Type 0
+  Goes i = (keep c (get_or s i 0) ≡ true) × (next c (get_or s i 0) ≡ c)
 
-  pub turn_in : t ≡ true → i < length s
-  turn_in e = within (is_class k) (outside k) s i (said e)
+  over : (n at : ℕ) → at + n ≤ length s → ((i : ℕ) → at ≤ i → i < at + n → Goes i) → past_span keep next c s (at + n) ≡ past_span keep next c s at
+  over zero at h all = ap (past_span keep next c s) (add-zero at)
+  over (suc n) at h all =
+      let read : byte_at s at ≡ get_or s at 0 = byte_in s at (omega (arith, h)) in
+      let this : Goes at = all at (omega arith) (omega arith) in
+      let further : at + suc n ≡ at + 1 + n = omega arith in
+      ap (past_span keep next c s) further
+      ∙ over n (at + 1) (omega (arith, h)) (λ i l m. all i (omega (arith, l)) (omega (arith, m)))
+      ∙ ap (λ u. past_span keep next u s (at + 1)) (sym (ap (next c) read ∙ this.1))
+      ∙ span_more keep next c none s at (ap (keep c) read ∙ this.0)
 
-  pub turn_more : t ≡ true → past_run (is_class k) s (i + 1) ≡ past_run (is_class k) s i
-  turn_more e = past_more (is_class k) (outside k) s i (said e)
+  pub span_over : (at to : ℕ) → at ≤ to → (at < to → to ≤ length s) → ((i : ℕ) → at ≤ i → i < to → Goes i) → past_span keep next c s to ≡ past_span keep next c s at
+  span_over at to h inside all = elim (dec_lt at to) [ yes k ↦ go k | no f ↦ (let e : to ≡ at = omega (arith, f, h) in ap (past_span keep next c s) e) ]
+    where
+      go : at < to → past_span keep next c s to ≡ past_span keep next c s at
+      go k =
+          let e : to ≡ at + (to - at) = omega (arith, h) in
+          ap (past_span keep next c s) e ∙ over (to - at) at (omega (arith, h, inside k)) (λ i l m. all i l (omega (arith, m, h)))
 
-  pub turn_done : t ≡ false → i ≡ past_run (is_class k) s i
-  turn_done e = sym (past_done (is_class k) (outside k) s i (said e))
+-- what holds of the bytes so far and of all bytes of the next block holds of them all
+pub block_more : (P : ℕ → Type 0) (s : List ℕ) (at i n : ℕ) → i + n ≤ length s → AllWithin P s at i → All P (take (i + n - i) (drop i s)) → AllWithin P s at (i + n)
+block_more P s at i n h before block k d l m = elim (dec_lt k i) [ yes j ↦ before k d l j | no f ↦ subst P (there f) (block (k - i) d (simp (length-take, length-drop) (omega (arith, f, h, m)))) ]
+  where
+    there : (k < i → ⊥) → get_or (take (i + n - i) (drop i s)) (k - i) d ≡ get_or s k d
+    there f =
+        let e : i + (k - i) ≡ k = omega (arith, f) in
+        get_or-take (i + n - i) (drop i s) (k - i) d (omega (arith, f, m)) ∙ get_or-drop i s (k - i) d ∙ ap (λ j. get_or s j d) e
 
--- a turn of a loop over a block, which reads the byte at i, and adds to `any` whether the byte stops the run
-module _ (k : Class) (s : List ℕ) (i : ℕ) (h : i < length s) {from : ℕ} where
-  pub block_more : (any : Bool) {stops : Bool} → (stops ≡ false → is_class k (get_or s i 0) ≡ true) → (any ≡ false → past_run (is_class k) s i ≡ from) → any || stops ≡ false → past_run (is_class k) s (i + 1) ≡ from
-  block_more true test so_far e = absurd (true≢false e)
-  block_more false test so_far e = past_more (is_class k) (outside k) s i (ap (is_class k) (byte_in s i h) ∙ test e) ∙ so_far refl
+-- the same of a run of one class, and of all of it
+module _ (k : Class) (s : List ℕ) (at to : ℕ) (h : at ≤ to) (inside : at < to → to ≤ length s) (all : (i : ℕ) → at ≤ i → i < to → is_class k (get_or s i 0) ≡ true) where
+  pub run_over : past_run (is_class k) s to ≡ past_run (is_class k) s at
+  unfolding past_run
+  run_over = span_over (λ c b. is_class k b) (λ c b. c) false (outside k) s at to h inside (λ i l m. (all i l m, refl))
+
+  pub run_whole : (to < length s → is_class k (get_or s to 0) ≡ false) → to ≡ past_run (is_class k) s at
+  run_whole stops = sym (past_done (is_class k) (outside k) s to (elim (dec_lt to (length s)) [ yes i ↦ ap (is_class k) (byte_in s to i) ∙ stops i | no f ↦ ap (is_class k) (byte_out s to (omega (arith, f))) ∙ outside k ])) ∙ run_over
 
 pub no_newline : (b : ℕ) → b < 256 → eqb b 10 ≡ false → is_class Line b ≡ true
 unfolding is_class
@@ -170,10 +193,6 @@ no_newline b h e = simp (e, lt-ltb b 256 h)
 pub not_high : (b : ℕ) → leb 128 b ≡ false → is_class Ascii b ≡ true
 unfolding is_class
 not_high b e = lt-ltb b 128 (leb-false 128 b e)
-
--- behind its last byte
-pub block_done : (k : Class) (s : List ℕ) {i n from : ℕ} {any : Bool} → i ≡ n → (any ≡ false → past_run (is_class k) s i ≡ from) → any ≡ false → past_run (is_class k) s n ≡ from
-block_done k s e so_far none = ap (past_run (is_class k) s) (sym e) ∙ so_far none
 
 -- a turn of the loop of `behind_last`, which reads the byte b before the place i
 module _ (c : ℕ) (s : List ℕ) (i : ℕ) where

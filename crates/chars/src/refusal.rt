@@ -1,4 +1,5 @@
 // Document 01's numbers of refusals.
+// kept: numbers and no enum, since the C interface hands them out, and the definitions and theorems on answers speak of these numbers.
 
 // Accepted.
 pub const NONE: u64 = 0;

@@ -3,269 +3,190 @@
 #![tactic(auto)]
 
 use chars::{Answer, refusal};
-use messages::text;
-use programs::Out;
+use messages::Page;
+use programs::{Ending, Out};
 use reader::entries;
-use std::alloc::Global;
 use std::fs;
+use std::fs::File;
 use std::io::{Error, ErrorKind, Read};
-use std::rt::{Env, Files};
+use std::rt::Env;
 
 const STDERR_FILENO: i32 = 2;
 
-// How many files were accepted, refused and not read, and whether everything could be written.
-#[derive(Clone, Copy)]
-struct Tally {
-    accepted: u64,
-    refused: u64,
-    unread: u64,
-    written: bool,
-}
+// The first argument that is a file.
+const FIRST_FILE: usize = 2;
 
 // What became of one file.
-#[derive(Clone, Copy)]
+#[derive(Clone, Copy, Debug, PartialEq, Eq)]
 enum Outcome {
     Accepted,
     Refused,
     Unread,
-    Unwritten,
 }
 
-fn added(t: Tally, o: Outcome) -> Tally {
-    let mut r = t;
-    match o {
-        Outcome::Accepted => r.accepted = std::num::wrapping_add_u64(t.accepted, 1),
-        Outcome::Refused => r.refused = std::num::wrapping_add_u64(t.refused, 1),
-        Outcome::Unread => r.unread = std::num::wrapping_add_u64(t.unread, 1),
-        Outcome::Unwritten => r.written = false,
-    }
-    r
+// How many files there were of each kind.
+#[derive(Clone, Copy, Default)]
+struct Tally {
+    accepted: u64,
+    refused: u64,
+    unread: u64,
 }
 
-// The first bytes of a buffer.
-fn write(to: &mut Out, out: &[u8], count: usize) -> bool {
-    if count <= out.len() {
-        to.say(&out[..count]);
-        return to.written().is_ok();
+impl Tally {
+    fn add(&mut self, outcome: Outcome) {
+        match outcome {
+            Outcome::Accepted => self.accepted = self.accepted.saturating_add(1),
+            Outcome::Refused => self.refused = self.refused.saturating_add(1),
+            Outcome::Unread => self.unread = self.unread.saturating_add(1),
+        }
     }
-    false
 }
 
-// An outcome, if what says so could be written.
-fn said(alloc: Global, to: &mut Out, out: &[u8], count: usize, o: Outcome) -> Outcome {
-    if write(to, out, count) {
-        return o;
-    }
-    if let Err(why) = to.written() {
-        programs::fail(alloc, b"standard output", &why);
-    }
-    Outcome::Unwritten
-}
-
-// A file without a refusal: a line of JSON, and nothing as text.
-fn plain(
-    alloc: Global,
-    to: &mut Out,
-    out: &mut [u8],
+// Where what becomes of a file is said, in which form, and the file's name. An error is one of saying it.
+#[derive(Drop)]
+struct Report<'a> {
+    to: &'a mut Out,
     json: bool,
-    name: &[u8],
-    status: &[u8],
-    o: Outcome,
-) -> Outcome {
-    if json {
-        let head = messages::json_head(out, name, status);
-        let end = text::raw(out, head, b"}\n");
-        return said(alloc, to, out, end, o);
+    name: &'a [u8],
+}
+
+impl Report<'_> {
+    // A file without a refusal: a line of JSON, and nothing as text.
+    fn plain(&mut self, status: &str, outcome: Outcome) -> Result<Outcome, Error> {
+        if self.json {
+            let mut out = io::large_buffer();
+            let mut page = Page::new(&mut out);
+            messages::json_head(&mut page, self.name, status);
+            page.put_all(b"}\n");
+            self.to.say(page.written());
+            self.to.written()?;
+        }
+        Ok(outcome)
     }
-    o
-}
 
-fn refused(
-    alloc: Global,
-    to: &mut Out,
-    out: &mut [u8],
-    json: bool,
-    name: &[u8],
-    s: &[u8],
-    a: Answer,
-) -> Outcome {
-    let mut room = io::large_buffer();
-    if json {
-        let end = messages::json(name, s, a, &mut room, out);
-        return said(alloc, to, out, end, Outcome::Refused);
+    fn refused(&mut self, s: &[u8], a: Answer) -> Result<Outcome, Error> {
+        let mut room = io::large_buffer();
+        let mut out = io::large_buffer();
+        let mut page = Page::new(&mut out);
+        if self.json {
+            messages::json(&mut page, self.name, s, a, &mut room);
+        } else {
+            messages::report(&mut page, self.name, s, a, &mut room);
+        }
+        self.to.say(page.written());
+        self.to.written()?;
+        Ok(Outcome::Refused)
     }
-    let end = messages::report(name, s, a, &mut room, out);
-    said(alloc, to, out, end, Outcome::Refused)
-}
 
-// The reader has no room for any row: so a source is accepted if it says nothing else.
-fn checked(
-    alloc: Global,
-    to: &mut Out,
-    out: &mut [u8],
-    json: bool,
-    name: &[u8],
-    s: &[u8],
-) -> Outcome {
-    let mut none = [0u64; 1];
-    let a = entries::tree(s, &mut none);
-    if a.number == refusal::NO_ROOM {
-        return plain(alloc, to, out, json, name, b"accepted", Outcome::Accepted);
+    // The reader has no room for any row: so a source is accepted if it says nothing else.
+    fn checked(&mut self, s: &[u8]) -> Result<Outcome, Error> {
+        let mut none = [0u64; 1];
+        let a = entries::tree(s, &mut none);
+        if a.number == refusal::NO_ROOM {
+            return self.plain("accepted", Outcome::Accepted);
+        }
+        self.refused(s, a)
     }
-    refused(alloc, to, out, json, name, s, a)
-}
 
-fn unread(
-    alloc: Global,
-    to: &mut Out,
-    out: &mut [u8],
-    json: bool,
-    name: &[u8],
-    why: &Error,
-) -> Outcome {
-    programs::fail(alloc, name, why);
-    plain(alloc, to, out, json, name, b"unreadable", Outcome::Unread)
-}
+    fn unread(&mut self, rt: &HostRuntime, why: &Error) -> Result<Outcome, Error> {
+        programs::fail(rt.alloc(), self.name, why);
+        self.plain("unreadable", Outcome::Unread)
+    }
 
-// A file that is open.
-fn opened(
-    alloc: Global,
-    to: &mut Out,
-    out: &mut [u8],
-    json: bool,
-    name: &[u8],
-    input: &mut impl Read,
-) -> Outcome {
-    let mut source = io::large_buffer();
-    match programs::read(input, &mut source) {
-        Ok(length) => checked(alloc, to, out, json, name, &source[..length]),
-        Err(why) => unread(alloc, to, out, json, name, &why),
+    fn other(&mut self) -> Result<Outcome, Error> {
+        io::write_all(STDERR_FILENO, self.name);
+        io::write_all(STDERR_FILENO, b": no regular file and no pipe\n");
+        self.plain("unreadable", Outcome::Unread)
+    }
+
+    // A file that is open.
+    fn opened(&mut self, rt: &HostRuntime, input: &mut impl Read) -> Result<Outcome, Error> {
+        let mut buffer = io::large_buffer();
+        match programs::read(input, &mut buffer) {
+            Ok(source) => self.checked(source),
+            Err(why) => self.unread(rt, &why),
+        }
+    }
+
+    fn named(&mut self, rt: &HostRuntime) -> Result<Outcome, Error> {
+        match open(rt, self.name) {
+            Ok(mut file) => self.opened(rt, &mut file),
+            Err(why) => self.unread(rt, &why),
+        }
+    }
+
+    // A file by the letter before its name.
+    fn file(&mut self, rt: &HostRuntime, letter: u8) -> Result<Outcome, Error> {
+        match letter {
+            b'-' => self.opened(rt, &mut rt.reader()),
+            b'o' => self.other(),
+            _ => self.named(rt),
+        }
     }
 }
 
 // A file by its name, which has to be UTF-8.
-fn open<R: Files>(rt: &R, name: &[u8]) -> Result<R::File, Error> {
+fn open(rt: &HostRuntime, name: &[u8]) -> Result<File, Error> {
     match std::str::from_utf8(name) {
         Ok(path) => fs::open(rt, path),
         Err(_) => Err(Error::from(ErrorKind::InvalidFilename)),
     }
 }
 
-fn named<R: Files + AllocGlobal>(
-    rt: &R,
-    to: &mut Out,
-    out: &mut [u8],
-    json: bool,
-    name: &[u8],
-) -> Outcome {
-    match open(rt, name) {
-        Ok(mut input) => opened(rt.alloc(), to, out, json, name, &mut input),
-        Err(why) => unread(rt.alloc(), to, out, json, name, &why),
-    }
-}
-
-fn other(alloc: Global, to: &mut Out, out: &mut [u8], json: bool, name: &[u8]) -> Outcome {
-    io::write_all(STDERR_FILENO, name);
-    io::write_all(STDERR_FILENO, b": no regular file and no pipe\n");
-    plain(alloc, to, out, json, name, b"unreadable", Outcome::Unread)
-}
-
-// A file by the letter before its name.
-fn file<R: Files + Input + AllocGlobal>(
-    rt: &R,
-    to: &mut Out,
-    out: &mut [u8],
-    json: bool,
-    letter: u8,
-    name: &[u8],
-) -> Outcome {
-    if letter == b'-' {
-        return opened(rt.alloc(), to, out, json, name, &mut rt.reader());
-    }
-    if letter == b'o' {
-        return other(rt.alloc(), to, out, json, name);
-    }
-    named(rt, to, out, json, name)
-}
-
 // The argument with a number.
-fn argument<R: Env + Files + Input + AllocGlobal>(
-    rt: &R,
-    to: &mut Out,
-    json: bool,
-    i: usize,
-) -> Outcome {
-    let mut out = io::large_buffer();
-    let mut name = io::buffer();
-    let length = match rt.arg(i, &mut name) {
-        Ok(n) => n,
+fn argument(rt: &HostRuntime, to: &mut Out, json: bool, i: usize) -> Result<Outcome, Error> {
+    let mut buffer = io::buffer();
+    let length = match rt.arg(i, &mut buffer) {
+        Ok(length) => length,
         Err(why) => {
-            let why = programs::lacking(why);
-            return unread(rt.alloc(), to, &mut out, json, b"a name", &why);
+            let name = b"a name";
+            return Report { to, json, name }.unread(rt, &programs::lacking(why));
         }
     };
-    if length < 1 {
-        let why = Error::from_raw_os_error(0);
-        return unread(rt.alloc(), to, &mut out, json, b"", &why);
-    }
-    file(rt, to, &mut out, json, name[0], &name[1..length])
+    let Some((letter, name)) = buffer[..length].split_first() else {
+        let name = b"";
+        return Report { to, json, name }.unread(rt, &Error::from_raw_os_error(0));
+    };
+    Report { to, json, name }.file(rt, *letter)
 }
 
 // The arguments behind the first.
-fn arguments<R: Env + Files + Input + AllocGlobal>(
-    rt: &R,
-    to: &mut Out,
-    json: bool,
-    count: usize,
-) -> Tally {
-    let mut tally = Tally {
-        accepted: 0,
-        refused: 0,
-        unread: 0,
-        written: true,
-    };
-    let mut i = 2;
-    while i < count {
-        let o = argument(rt, to, json, i);
-        tally = added(tally, o);
-        i += 1;
+fn arguments(rt: &HostRuntime, to: &mut Out, json: bool, count: usize) -> Tally {
+    let mut tally = Tally::default();
+    for i in FIRST_FILE..count {
+        match argument(rt, to, json, i) {
+            Ok(outcome) => tally.add(outcome),
+            Err(why) => programs::fail(rt.alloc(), b"standard output", &why),
+        }
     }
     tally
 }
 
-fn figure(out: &mut [u8], at: usize, n: u64, what: &[u8]) -> usize {
-    let end = text::decimal(out, at, n);
-    text::raw(out, end, what)
-}
-
-// How many there were of each kind.
-fn summary(to: &mut Out, t: Tally, count: usize) -> bool {
-    let mut out = io::buffer();
-    let mut n = figure(&mut out, 0, count as u64, b" files: ");
-    n = figure(&mut out, n, t.accepted, b" accepted, ");
-    n = figure(&mut out, n, t.refused, b" refused, ");
-    n = figure(&mut out, n, t.unread, b" unreadable\n");
-    write(to, &out, n)
-}
-
-fn status(t: Tally) -> u8 {
-    if (0 < t.unread) | !t.written {
-        return programs::FAILED;
+fn ending(tally: Tally, written: Result<(), Error>) -> Ending {
+    if (0 < tally.unread) | written.is_err() {
+        return Ending::Failed;
     }
-    if 0 < t.refused {
-        return programs::REFUSED;
+    if 0 < tally.refused {
+        return Ending::Refused;
     }
-    programs::ACCEPTED
+    Ending::Accepted
 }
 
 fn main(rt: HostRuntime) {
-    let json = programs::asked(&rt) == b'j';
+    let json = programs::asked(&rt) == Some(b'j');
     let count = programs::arguments(&rt);
     let mut to = Out::new(rt.stdout());
-    let mut tally = arguments(&rt, &mut to, json, count);
-    if (3 < count) & !json {
-        let written = summary(&mut to, tally, count - 2);
-        tally.written = tally.written & written;
+    let tally = arguments(&rt, &mut to, json, count);
+    let files = count.saturating_sub(FIRST_FILE);
+    if (1 < files) & !json {
+        let Tally {
+            accepted,
+            refused,
+            unread,
+        } = tally;
+        to.print(format_args!(
+            "{files} files: {accepted} accepted, {refused} refused, {unread} unreadable\n"
+        ));
     }
-    programs::status(&rt, status(tally));
+    programs::status(&rt, ending(tally, to.written()));
 }

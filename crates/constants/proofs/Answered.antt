@@ -1,4 +1,5 @@
 -- C-18's answer: that there is one and only one, and how `evaluate` gives it.
+use Rattle.std.specs.Prelude.{Option, Some, None, Ok, Err, is_err}
 use mathlib.Core.Path.{◌≡◌, refl, sym, ap, ◌∙◌, subst}
 use mathlib.Core.List.{List, [], ◌∷◌, ◌++◌, append_assoc}
 use mathlib.Core.Bool.{Bool, true, false, cond}
@@ -18,17 +19,14 @@ use Rattle.answers.proofs.Demands.{demand_1}
 use Rattle.answers.proofs.Determined.{one_permitted, accepted_reads}
 use Rattle.answers.proofs.Bytes.{a_permitted}
 use Rattle.numbers.proofs.Choices.{first, second}
-use Rattle.machine.specs.declared.Value.{Value}
 use Rattle.machine.specs.Machine.{wide}
-use Rattle.constants.specs.declared.Constant.{Constant}
-use Rattle.constants.specs.declared.Found.{Found}
 use Rattle.constants.specs.Trees.{Forest, none, tree, rows_of, row_at, rows_from}
 use Rattle.constants.specs.Types.{declared_of}
 use Rattle.constants.specs.Lists.{flat_list}
-use Rattle.constants.specs.Answers.{refusal, is_constant, constants, Numbered, constant_of, list_of, left, Permitted, unread, absent, there}
+use Rattle.constants.specs.Answers.{Constant, refusal, is_constant, constants, Numbered, constant_of, list_of, left, Permitted, unread, absent, there, type_for}
 use Rattle.constants.specs.Steps.{codes_at, found_from, numbered_at, Placed, Table, WroteAt, WroteFor}
 use Rattle.constants.proofs.Accepted.{accepted_is}
-use Rattle.constants.proofs.Whole.{place, before_length, type_at, expr_at, worked_means, list_means, placed, const_is}
+use Rattle.constants.proofs.Whole.{place, before_length, expr_at, worked_means, list_means, placed, const_is}
 use Rattle.constants.proofs.Search.{at_same, found_at, View, at_row, no_row, view, Declared, declared}
 
 -- ---- the rows of an accepted table
@@ -78,12 +76,12 @@ rows_length t i zero = refl
 rows_length t i (suc n) = ap suc (rows_length t (suc i) n)
 
 -- a constant that is there is found
-pub found_place : (t : List ℕ) (m k : ℕ) {y e : Row} {kids : Forest} (h : Numbered (rows_from t 0 m) k y e kids) → found_from t 0 m k ≡ Found.At (place t m k h)
+pub found_place : (t : List ℕ) (m k : ℕ) {y e : Row} {kids : Forest} (h : Numbered (rows_from t 0 m) k y e kids) → found_from t 0 m k ≡ Some (place t m k h)
 found_place t m k {y} {e} {kids} h =
     found_at t 0 m (h.front ++ rows_of (tree h.name h.in_name (tree y h.in_type (tree e kids none)))) h.const h.behind k
     (h.rows ∙ sym (append_assoc h.front (rows_of (tree h.name h.in_name (tree y h.in_type (tree e kids none)))) (h.const ∷ h.behind)))
     (const_is t m k h) h.number
-    ∙ ap (λ (i : ℕ). Found.At i) (ap (λ (i : ℕ). 0 + i) (before_length t m k h) ∙ omega arith)
+    ∙ ap (λ (i : ℕ). Some i) (ap (λ (i : ℕ). 0 + i) (before_length t m k h) ∙ omega arith)
 
 -- where there are too few constants, none is found
 constants_more : (xs : List Row) (c : Row) (ys : List Row) → is_constant c.kind c.children ≡ true → suc (constants xs) ≤ constants (xs ++ (c ∷ ys))
@@ -95,10 +93,10 @@ constants_more (x ∷ xs) c ys h = go (is_constant x.kind x.children) (constants
     go true k = omega (arith, k)
     go false k = k
 
-none_found : (t : List ℕ) (n k : ℕ) → constants (rows_from t 0 n) ≤ k → found_from t 0 n k ≡ Found.None
+none_found : (t : List ℕ) (n k : ℕ) → constants (rows_from t 0 n) ≤ k → found_from t 0 n k ≡ None
 none_found t n k h = go (view t 0 n k)
   where
-    go : View t 0 n k → found_from t 0 n k ≡ Found.None
+    go : View t 0 n k → found_from t 0 n k ≡ None
     go (at_row xs ys e c m f) =
         let z = constants_more xs (row_at t (0 + length xs)) ys c in
         let y = ap constants e in
@@ -154,12 +152,12 @@ module _ (tests : Bool) (s : List ℕ) (k size list : ℕ) where
     room = list / wide
 
     -- what is left in the list of a constant that was found at a row
-    list_left : {y e : Row} {kids : Forest} (h : Numbered (rows_from t 0 n) k y e kids) (l : List ℕ) → length l ≡ list → (c : Constant) → c ≡ constant_of s room y e kids → WroteAt s t (place t n k h) l c → left list c l ≡ left list c (list_of s list y e kids)
+    list_left : {y e : Row} {kids : Forest} (h : Numbered (rows_from t 0 n) k y e kids) (l : List ℕ) → length l ≡ list → (c : Constant) → c ≡ constant_of s room y e kids → WroteAt s t (place t n k h) l c → left list c l ≡ left list c (list_of s list (type_for c) e kids)
     unfolding WroteAt
-    list_left {y} {e} {kids} h l q (Constant.Is v w m) u r =
-        let d = accepted_is v w m s room y e kids (sym u) in
-        r ∙ (λ j. flat_list (codes_at s t (place t n k h - sym d.count_is j) (sym d.count_is j) (sym d.type_is j)) ++ replicate (q j - wide * sym d.count_is j) 0) ∙ list_means t n k h s room list
-    list_left h l q (Constant.Refused x) u r = refl
+    list_left {y} {e} {kids} h l q (Ok f) u r =
+        let d = accepted_is f.value f.ty f.count s room y e kids (sym u) in
+        r ∙ (λ j. flat_list (codes_at s t (place t n k h - sym d.count_is j) (sym d.count_is j) f.ty) ++ replicate (q j - wide * sym d.count_is j) 0) ∙ list_means t n k h s room list f.ty
+    list_left h l q (Err x) u r = refl
 
     pub permits : (c : Constant) (l T L : List ℕ) → c ≡ numbered_at s room t (found_from t 0 n k) → WroteFor s t (found_from t 0 n k) l c → length l ≡ list → T ≡ left size c t → L ≡ left list c l → Permitted tests s k size list c T L
     unfolding numbered_at WroteFor
@@ -168,9 +166,9 @@ module _ (tests : Bool) (s : List ℕ) (k size list : ℕ) where
         at : (d : Declared (rows_from t 0 n) k) → Permitted tests s k size list c T L
         at d =
             let h = d.numbered in
-            let f : found_from t 0 n k ≡ Found.At (place t n k h) = found_place t n k h in
+            let f : found_from t 0 n k ≡ Some (place t n k h) = found_place t n k h in
             let m : c ≡ constant_of s room d.type d.expr d.kids = u ∙ ap (numbered_at s room t) f ∙ worked_means t n k h s room in
-            let o : L ≡ left list c (list_of s list d.type d.expr d.kids) = y ∙ list_left h l q c m (subst (λ (g : Found). WroteFor s t g l c) f w) in
+            let o : L ≡ left list c (list_of s list (type_for c) d.expr d.kids) = y ∙ list_left h l q c m (subst (λ (g : Option ℕ). WroteFor s t g l c) f w) in
             subst (λ (v : List ℕ). Permitted tests s k size list c v L) (sym x) (subst (Permitted tests s k size list c (left size c t)) (sym o) (there p z h m))
 
         go : View t 0 n k → Permitted tests s k size list c T L
@@ -182,8 +180,8 @@ module _ (tests : Bool) (s : List ℕ) (k size list : ℕ) where
             subst (λ (r : Constant). Permitted tests s k size list r T L) (sym m) (subst (λ (v : List ℕ). Permitted tests s k size list (refusal 15 0 0) v L) (sym x') (subst (Permitted tests s k size list (refusal 15 0 0) (replicate size 0)) (sym y') (absent p z h)))
 
   -- a source that (a) refuses
-  pub unread_permits : {a : Answer} {t : List ℕ} → reader.Permitted tests true s size a t → (a.number ≡ 0 → ⊥) → (l L : List ℕ) → length l ≡ list → L ≡ zeroed l 0 → Permitted tests s k size list (Constant.Refused a) t L
-  unread_permits {a} {t} p h l L q e = subst (Permitted tests s k size list (Constant.Refused a) t) (sym (e ∙ zeroed_all l ∙ ap (λ (n : ℕ). replicate n 0) q)) (unread p h)
+  pub unread_permits : {a : Answer} {t : List ℕ} → reader.Permitted tests true s size a t → (a.number ≡ 0 → ⊥) → (l L : List ℕ) → length l ≡ list → L ≡ zeroed l 0 → Permitted tests s k size list (Err a) t L
+  unread_permits {a} {t} p h l L q e = subst (Permitted tests s k size list (Err a) t) (sym (e ∙ zeroed_all l ∙ ap (λ (n : ℕ). replicate n 0) q)) (unread p h)
 
   -- ---- there is one answer
 
@@ -196,33 +194,35 @@ module _ (tests : Bool) (s : List ℕ) (k size list : ℕ) where
       found a t p z (at_row xs ys e h m f) =
           let d = declared (each tests s size p z) xs ys (row_at t (0 + length xs)) e h m in
           let c = constant_of s (list / wide) d.type d.expr d.kids in
-          (c, left size c t, left list c (list_of s list d.type d.expr d.kids), there p z d.numbered refl)
+          (c, left size c t, left list c (list_of s list (type_for c) d.expr d.kids), there p z d.numbered refl)
       found a t p z (no_row h f) = (refusal 15 0 0, replicate size 0, replicate list 0, absent p z h)
 
       read : (a : Answer) (t : List ℕ) → reader.Permitted tests true s size a t → (b : Bool) → eqb a.number 0 ≡ b → (c : Constant) × (T : List ℕ) × (L : List ℕ) × Permitted tests s k size list c T L
       read a t p true e = found a t p (eqb-true a.number 0 e) (view t 0 a.count k)
-      read a t p false e = (Constant.Refused a, t, replicate list 0, unread p (eqb-false a.number 0 e))
+      read a t p false e = (Err a, t, replicate list 0, unread p (eqb-false a.number 0 e))
 
   -- ---- and only one: by the steps, which look at the table alone
 
-  abbrev list_at : List ℕ → ℕ → List ℕ
-  list_at t i =
+  abbrev list_at : List ℕ → ℕ → ℕ → List ℕ
+  list_at t w i =
       let n : ℕ = (row_at t (i - 1)).size in
-      let y : Row = row_at t (i - n - 1) in
-      flat_list (codes_at s t (i - n) n (declared_of s y.kind y.start y.end)) ++ replicate (list - wide * n) 0
+      flat_list (codes_at s t (i - n) n w) ++ replicate (list - wide * n) 0
 
-  abbrev list_for : List ℕ → Found → List ℕ
-  list_for t (Found.At i) = list_at t i
-  list_for t Found.None = []
+  abbrev list_for : List ℕ → ℕ → Option ℕ → List ℕ
+  list_for t w (Some i) = list_at t w i
+  list_for t w None = []
+
+  abbrev list_left_for : List ℕ → Option ℕ → Constant → List ℕ
+  list_left_for t i c = left list c (list_for t (type_for c) i)
 
   abbrev constant_for : Answer → List ℕ → Constant
-  constant_for a t = cond (eqb a.number 0) (numbered_at s (list / wide) t (found_from t 0 a.count k)) (Constant.Refused a)
+  constant_for a t = cond (eqb a.number 0) (numbered_at s (list / wide) t (found_from t 0 a.count k)) (Err a)
 
   abbrev table_for : Answer → List ℕ → List ℕ
   table_for a t = cond (eqb a.number 0) (left size (numbered_at s (list / wide) t (found_from t 0 a.count k)) t) t
 
   abbrev left_for : Answer → List ℕ → List ℕ
-  left_for a t = cond (eqb a.number 0) (left list (numbered_at s (list / wide) t (found_from t 0 a.count k)) (list_for t (found_from t 0 a.count k))) (replicate list 0)
+  left_for a t = cond (eqb a.number 0) (list_left_for t (found_from t 0 a.count k) (numbered_at s (list / wide) t (found_from t 0 a.count k))) (replicate list 0)
 
   record Said (c : Constant) (T L : List ℕ) : Type 0 where
     answer : Answer
@@ -239,7 +239,7 @@ module _ (tests : Bool) (s : List ℕ) (k size list : ℕ) where
       record { answer = a; table = t; permitted = p; its_constant = second _ e refl; its_table = second _ e refl; its_list = second _ e refl }
   said (absent {a = a} {t = t} p z h) =
       let e : eqb a.number 0 ≡ true = eq-eqb a.number 0 z in
-      let f : found_from t 0 a.count k ≡ Found.None = none_found t a.count k h in
+      let f : found_from t 0 a.count k ≡ None = none_found t a.count k h in
       let m : refusal 15 0 0 ≡ numbered_at s (list / wide) t (found_from t 0 a.count k) = ap (numbered_at s (list / wide) t) (sym f) in
       record {
         answer = a;
@@ -247,25 +247,25 @@ module _ (tests : Bool) (s : List ℕ) (k size list : ℕ) where
         permitted = p;
         its_constant = first _ e m;
         its_table = first _ e (ap (λ (c : Constant). left size c t) m);
-        its_list = first _ e (ap (λ (c : Constant). left list c (list_for t (found_from t 0 a.count k))) m);
+        its_list = first _ e (ap (list_left_for t (found_from t 0 a.count k)) m);
       }
   said (there {a = a} {t = t} {y = y} {e = x} {kids = kids} {c = c} p z h u) =
       let e : eqb a.number 0 ≡ true = eq-eqb a.number 0 z in
-      let f : found_from t 0 a.count k ≡ Found.At (place t a.count k h) = found_place t a.count k h in
+      let f : found_from t 0 a.count k ≡ Some (place t a.count k h) = found_place t a.count k h in
       let m : c ≡ numbered_at s (list / wide) t (found_from t 0 a.count k) = u ∙ sym (worked_means t a.count k h s (list / wide)) ∙ ap (numbered_at s (list / wide) t) (sym f) in
       let i : ℕ = place t a.count k h in
-      let o : list_of s list y x kids ≡ list_for t (found_from t 0 a.count k) =
-      sym (list_means t a.count k h s (list / wide) list)
-      ∙ sym (ap (λ (r : Row). flat_list (codes_at s t (i - x.size) x.size (declared_of s r.kind r.start r.end)) ++ replicate (list - wide * x.size) 0) (type_at t a.count k h))
-      ∙ sym (ap (λ (r : Row). flat_list (codes_at s t (i - r.size) r.size (declared_of s (row_at t (i - r.size - 1)).kind (row_at t (i - r.size - 1)).start (row_at t (i - r.size - 1)).end)) ++ replicate (list - wide * r.size) 0) (expr_at t a.count k h))
-      ∙ ap (list_for t) (sym f) in
+      let w : ℕ = type_for c in
+      let o : list_of s list w x kids ≡ list_for t w (found_from t 0 a.count k) =
+      sym (list_means t a.count k h s (list / wide) list w)
+      ∙ sym (ap (λ (r : Row). flat_list (codes_at s t (i - r.size) r.size w) ++ replicate (list - wide * r.size) 0) (expr_at t a.count k h))
+      ∙ ap (list_for t w) (sym f) in
       record {
         answer = a;
         table = t;
         permitted = p;
         its_constant = first _ e m;
         its_table = first _ e (ap (λ (r : Constant). left size r t) m);
-        its_list = first _ e (λ q. left list (m q) (o q));
+        its_list = first _ e ((λ q. left list c (o q)) ∙ ap (list_left_for t (found_from t 0 a.count k)) m);
       }
 
   pub one_answer : {c d : Constant} {T U L M : List ℕ} → Permitted tests s k size list c T L → Permitted tests s k size list d U M → (c ≡ d) × (T ≡ U) × (L ≡ M)
@@ -289,15 +289,26 @@ module _ (tests : Bool) (s : List ℕ) (k size list : ℕ) where
 
 -- ---- what is left in a lent table
 
-pub keeps : {c : Constant} {v : Value} {w n : ℕ} → c ≡ Constant.Is v w n → (m : ℕ) (t : List ℕ) → t ≡ left m c t
-keeps e m t = ap (λ (r : Constant). left m r t) (sym e)
+pub keeps : (c : Constant) → is_err c ≡ false → (m : ℕ) (t : List ℕ) → t ≡ left m c t
+keeps (Ok f) e m t = refl
+keeps (Err a) e m t = cc
 
-pub zeros : {c : Constant} {a : Answer} → c ≡ Constant.Refused a → (m : ℕ) (t : List ℕ) {T : List ℕ} → length t ≡ m → T ≡ zeroed t 0 → T ≡ left m c t
-zeros e m t q h = h ∙ zeroed_all t ∙ ap (λ (n : ℕ). replicate n 0) q ∙ ap (λ (r : Constant). left m r t) (sym e)
+pub zeros : (c : Constant) → is_err c ≡ true → (m : ℕ) (t : List ℕ) {T : List ℕ} → length t ≡ m → T ≡ zeroed t 0 → T ≡ left m c t
+zeros (Ok f) e m t q h = cc
+zeros (Err a) e m t q h = h ∙ zeroed_all t ∙ ap (λ (n : ℕ). replicate n 0) q
 
 -- ---- "Zeros throughout" after any refusal
 
-pub zeros_left : (tests : Bool) (s : List ℕ) (k size list : ℕ) {c : Constant} {T L : List ℕ} → Permitted tests s k size list c T L → {a : Answer} → c ≡ Constant.Refused a → (T ≡ replicate size 0) × (L ≡ replicate list 0)
+pub zeros_left : (tests : Bool) (s : List ℕ) (k size list : ℕ) {c : Constant} {T L : List ℕ} → Permitted tests s k size list c T L → {a : Answer} → c ≡ Err a → (T ≡ replicate size 0) × (L ≡ replicate list 0)
 zeros_left tests s k size list (unread p h) e = ((demand_1 tests true s size).refused_zeros p h, refl)
 zeros_left tests s k size list (absent p z h) e = (refl, refl)
-zeros_left tests s k size list (there {t = t} {y = y} {e = x} {kids = kids} p z h u) e = (ap (λ (r : Constant). left size r t) e, ap (λ (r : Constant). left list r (list_of s list y x kids)) e)
+zeros_left tests s k size list (there {t = t} {y = y} {e = x} {kids = kids} p z h u) e = (ap (λ (r : Constant). left size r t) e, ap (λ (r : Constant). left list r (list_of s list (type_for r) x kids)) e)
+
+-- ---- an accepted constant's list is written with the type that its type's row declares
+
+pub list_declared : (s : List ℕ) (room list : ℕ) (y e : Row) (kids : Forest) (c : Constant) {w : ℕ} → c ≡ constant_of s room y e kids → declared_of s y.kind y.start y.end ≡ Some w
+    → left list c (list_of s list (type_for c) e kids) ≡ left list c (list_of s list w e kids)
+list_declared s room list y e kids (Ok f) {w} u d =
+    let h : Some f.ty ≡ Some w = sym (accepted_is f.value f.ty f.count s room y e kids (sym u)).type_is ∙ d in
+    ap (λ (x : ℕ). list_of s list x e kids) (at_same h)
+list_declared s room list y e kids (Err a) u d = refl

@@ -1,25 +1,42 @@
 -- Running the translation of a tree gives its meaning; and the translation is found from the last row to the first.
+use Rattle.std.specs.Prelude.{Option, Result, Some, None, Ok, Err}
 use mathlib.Core.Path.{◌≡◌, refl, sym, ap, ◌∙◌}
 use mathlib.Core.List.{List, [], ◌∷◌, ◌++◌, append_assoc, append-nil}
 use mathlib.Core.Bool.{Bool, true, false, cond}
-use Prim.Native.Nat.{ℕ, suc, ◌+◌, ◌-◌, ◌<◌}
+use Prim.Native.Nat.{ℕ, suc, ◌+◌, ◌-◌, ◌<◌, ◌≤◌}
 use native.Mathlib.Omega.{arith}
 use lib.Dec.{eqb}
-use borrow.Author.Tests.{eq-eqb, ne_eqb}
+use borrow.Author.Tests.{eq-eqb, ne_eqb, lt-ltb, le-ltb}
+use Rattle.std.specs.Option.{option_or}
+use Rattle.chars.specs.declared.Answer.{Answer}
 use Rattle.rows.specs.Kinds as kinds
 use Rattle.grammar.specs.Rows.{Row}
+use Rattle.machine.specs.declared.Stop.{Stop}
 use Rattle.machine.specs.declared.Value.{Value}
-use Rattle.machine.specs.declared.Step.{Step}
-use Rattle.machine.specs.declared.Ran.{Ran}
 use Rattle.machine.specs.Values.{literal_value, double_of}
-use Rattle.machine.specs.Machine.{Instr, State, topped, double_on, single_on, after, ended, exec}
-use Rattle.machine.proofs.Running.{pushes, doubles, singles}
-use Rattle.constants.specs.declared.Fault.{Fault}
+use Rattle.machine.specs.declared.Instruction.{Instruction}
+use Rattle.machine.specs.Machine.{topped, double_on, single_on, step_of, after, ended, exec}
 use Rattle.constants.specs.Trees.{Forest, none, tree, count, Grown, grown_none, grown_tree}
 use Rattle.constants.specs.Types.{compares, under, type_of}
 use Rattle.constants.specs.Meaning.{Outcome, is, stop, held, stepped, of_one, of_two, meaning}
 use Rattle.constants.specs.Lists.{instr_of, codes, first_of}
-use Rattle.constants.specs.Steps.{backward, typed, kept_of, latest}
+use Rattle.constants.specs.Steps.{backward, typed, latest}
+
+-- ---- a step, by the instruction's kind
+
+pushes : (x : Instruction) (st : List Value) → x.kind < 20 → step_of x st ≡ Ok (literal_value x.kind x.value ∷ st)
+unfolding step_of
+pushes x st h = ap (λ (b : Bool). cond b (Ok (literal_value x.kind x.value ∷ st)) (cond (eqb x.kind 20) (double_on x st) (single_on x st))) (lt-ltb x.kind 20 h)
+
+doubles : (x : Instruction) (st : List Value) → x.kind ≡ 20 → step_of x st ≡ double_on x st
+unfolding step_of
+doubles x st h =
+    (λ i. cond (le-ltb x.kind 20 (omega (arith, h)) i) (Ok (literal_value x.kind x.value ∷ st)) (cond (eq-eqb x.kind 20 h i) (double_on x st) (single_on x st)))
+
+singles : (x : Instruction) (st : List Value) → 20 ≤ x.kind → (x.kind ≡ 20 → ⊥) → step_of x st ≡ single_on x st
+unfolding step_of
+singles x st h f =
+    (λ i. cond (le-ltb x.kind 20 h i) (Ok (literal_value x.kind x.value ∷ st)) (cond (ne_eqb x.kind 20 f i) (double_on x st) (single_on x st)))
 
 -- as many operands as the kind has
 pub data Formed : Row → Forest → Type 0 where
@@ -27,9 +44,9 @@ pub data Formed : Row → Forest → Type 0 where
   sole : {r a : Row} {ka : Forest} → kinds.BINARY < r.kind → Formed a ka → Formed r (tree a ka none)
   pair : {r a b : Row} {ka kb : Forest} → r.kind ≡ kinds.BINARY → Formed a ka → Formed b kb → Formed r (tree a ka (tree b kb none))
 
-unfoldable pub ran : Outcome → Ran
-ran (is v) = Ran.Done v
-ran (stop s e) = Ran.Zero s e
+unfoldable pub ran : Outcome → Result Value Stop
+ran (is v) = Ok v
+ran (stop s e) = Err (Stop.ZeroDivisor s e)
 
 -- a forest's rows from the last to the first
 unfoldable pub backs : Forest → List Row
@@ -37,9 +54,9 @@ backs none = []
 backs (tree r kids ts) = backs ts ++ (r ∷ backs kids)
 
 -- how the machine goes on behind a tree
-unfoldable pub proceed : Outcome → List Instr → List Value → Ran
+unfoldable pub proceed : Outcome → List Instruction → List Value → Result Value Stop
 proceed (is v) xs st = exec xs (v ∷ st)
-proceed (stop s e) xs st = Ran.Zero s e
+proceed (stop s e) xs st = Err (Stop.ZeroDivisor s e)
 
 module _ (src : List ℕ) where
   no_detail : (w : ℕ) (r : Row) → (r.kind ≡ 20 → ⊥) → (instr_of src w r).value ≡ held src r
@@ -50,48 +67,48 @@ module _ (src : List ℕ) where
   unfolding instr_of
   its_detail w r h = ap (λ (b : Bool). cond b r.detail (held src r)) (eq-eqb r.kind 20 h)
 
-  ran_leaf : (w : ℕ) (r : Row) (xs : List Instr) (st : List Value) → r.kind < 20 → exec (instr_of src w r ∷ xs) st ≡ proceed (is (literal_value r.kind (held src r))) xs st
+  ran_leaf : (w : ℕ) (r : Row) (xs : List Instruction) (st : List Value) → r.kind < 20 → exec (instr_of src w r ∷ xs) st ≡ proceed (is (literal_value r.kind (held src r))) xs st
   unfolding exec instr_of after proceed
   ran_leaf w r xs st h =
-      ap (λ (s : State). after (instr_of src w r) s (exec xs)) (pushes (instr_of src w r) st h)
+      ap (λ (s : Result (List Value) Stop). after s (exec xs)) (pushes (instr_of src w r) st h)
       ∙ ap (λ (v : ℕ). exec xs (literal_value r.kind v ∷ st)) (no_detail w r (λ e. omega (arith, h, e)))
 
-  ran_one : (w : ℕ) (r : Row) (xs : List Instr) (st : List Value) (x : Outcome) → 20 < r.kind → proceed x (instr_of src w r ∷ xs) st ≡ proceed (of_one w r x) xs st
+  ran_one : (w : ℕ) (r : Row) (xs : List Instruction) (st : List Value) (x : Outcome) → 20 < r.kind → proceed x (instr_of src w r ∷ xs) st ≡ proceed (of_one w r x) xs st
   unfolding exec instr_of after proceed of_one single_on
-  ran_one w r xs st (is a) h = ap (λ (s : State). after (instr_of src w r) s (exec xs)) (singles (instr_of src w r) (a ∷ st) (omega (arith, h)) (λ e. omega (arith, h, e)))
+  ran_one w r xs st (is a) h = ap (λ (s : Result (List Value) Stop). after s (exec xs)) (singles (instr_of src w r) (a ∷ st) (omega (arith, h)) (λ e. omega (arith, h, e)))
   ran_one w r xs st (stop s e) h = refl
 
-  ran_step : (w : ℕ) (r : Row) (xs : List Instr) (st : List Value) (s : Step) → after (instr_of src w r) (topped s st) (exec xs) ≡ proceed (stepped r s) xs st
+  ran_step : (w : ℕ) (r : Row) (xs : List Instruction) (st : List Value) (s : Option Value) → after (topped (instr_of src w r) s st) (exec xs) ≡ proceed (stepped r s) xs st
   unfolding after topped stepped proceed instr_of
-  ran_step w r xs st (Step.To v) = refl
-  ran_step w r xs st Step.Zero = refl
+  ran_step w r xs st (Some v) = refl
+  ran_step w r xs st None = refl
 
-  ran_two : (w : ℕ) (r : Row) (xs : List Instr) (st : List Value) (a b : Value) → r.kind ≡ 20
+  ran_two : (w : ℕ) (r : Row) (xs : List Instruction) (st : List Value) (a b : Value) → r.kind ≡ 20
       → exec (instr_of src w r ∷ xs) (b ∷ a ∷ st) ≡ proceed (of_two w r (is a) (is b)) xs st
   unfolding exec instr_of double_on of_two
   ran_two w r xs st a b h =
-      ap (λ (s : State). after (instr_of src w r) s (exec xs)) (doubles (instr_of src w r) (b ∷ a ∷ st) h)
-      ∙ ap (λ (d : ℕ). after (instr_of src w r) (topped (double_of (type_of w) d a b) st) (exec xs)) (its_detail w r h)
+      ap (λ (s : Result (List Value) Stop). after s (exec xs)) (doubles (instr_of src w r) (b ∷ a ∷ st) h)
+      ∙ ap (λ (d : ℕ). after (topped (instr_of src w r) (double_of (type_of w) d a b) st) (exec xs)) (its_detail w r h)
       ∙ ran_step w r xs st (double_of (type_of w) r.detail a b)
 
   -- two trees, then the operator
-  both : (w v : ℕ) (r : Row) (xs ys : List Instr) (st : List Value) (x y : Outcome) → r.kind ≡ 20
+  both : (w v : ℕ) (r : Row) (xs ys : List Instruction) (st : List Value) (x y : Outcome) → r.kind ≡ 20
       → ((t : List Value) → exec ys t ≡ proceed y (instr_of src w r ∷ xs) t) → proceed x ys st ≡ proceed (of_two w r x y) xs st
   unfolding proceed of_two
   both w v r xs ys st (stop s e) y h f = refl
   both w v r xs ys st (is a) (stop s e) h f = f (a ∷ st)
   both w v r xs ys st (is a) (is b) h f = f (a ∷ st) ∙ ran_two w r xs st a b h
 
-  pub runs_tree : {r : Row} {kids : Forest} → Formed r kids → (w : ℕ) (ts : Forest) (xs : List Instr) (st : List Value)
+  pub runs_tree : {r : Row} {kids : Forest} → Formed r kids → (w : ℕ) (ts : Forest) (xs : List Instruction) (st : List Value)
       → exec (codes (instr_of src) w (tree r kids ts) ++ xs) st ≡ proceed (meaning src w r kids) (codes (instr_of src) w ts ++ xs) st
   unfolding codes meaning
   runs_tree {r} (leaf h) w ts xs st = ran_leaf w r (codes (instr_of src) w ts ++ xs) st h
   runs_tree {r} (sole {a = a} {ka = ka} h f) w ts xs st =
-      ap (λ (z : List Instr). exec z st) (append_assoc (codes (instr_of src) (under w r) (tree a ka none)) (instr_of src w r ∷ codes (instr_of src) w ts) xs)
+      ap (λ (z : List Instruction). exec z st) (append_assoc (codes (instr_of src) (under w r) (tree a ka none)) (instr_of src w r ∷ codes (instr_of src) w ts) xs)
       ∙ runs_tree f (under w r) none (instr_of src w r ∷ (codes (instr_of src) w ts ++ xs)) st
       ∙ ran_one w r (codes (instr_of src) w ts ++ xs) st (meaning src (under w r) a ka) h
   runs_tree {r} (pair {a = a} {b = b} {ka = ka} {kb = kb} h f g) w ts xs st =
-      ap (λ (z : List Instr). exec z st) (append_assoc (codes (instr_of src) (under w r) (tree a ka (tree b kb none))) (instr_of src w r ∷ codes (instr_of src) w ts) xs)
+      ap (λ (z : List Instruction). exec z st) (append_assoc (codes (instr_of src) (under w r) (tree a ka (tree b kb none))) (instr_of src w r ∷ codes (instr_of src) w ts) xs)
       ∙ runs_tree f (under w r) (tree b kb none) (instr_of src w r ∷ (codes (instr_of src) w ts ++ xs)) st
       ∙ both w (under w r) r (codes (instr_of src) w ts ++ xs) (codes (instr_of src) (under w r) (tree b kb none) ++ (instr_of src w r ∷ (codes (instr_of src) w ts ++ xs))) st (meaning src (under w r) a ka) (meaning src (under w r) b kb) h
       (λ t. runs_tree g (under w r) none (instr_of src w r ∷ (codes (instr_of src) w ts ++ xs)) t)
@@ -100,7 +117,7 @@ module _ (src : List ℕ) where
   pub run_means : {r : Row} {kids : Forest} → Formed r kids → (w : ℕ) → exec (codes (instr_of src) w (tree r kids none)) [] ≡ ran (meaning src w r kids)
   unfolding proceed ran exec codes ended
   run_means {r} {kids} f w =
-      ap (λ (z : List Instr). exec z []) (sym (append-nil (codes (instr_of src) w (tree r kids none))))
+      ap (λ (z : List Instruction). exec z []) (sym (append-nil (codes (instr_of src) w (tree r kids none))))
       ∙ runs_tree f w none [] [] ∙ last (meaning src w r kids) where
         last : (x : Outcome) → proceed x (codes (instr_of src) w none ++ []) [] ≡ ran x
         last (is v) = refl
@@ -169,19 +186,33 @@ module _ {A : Type 0} (f : ℕ → Row → A) where
 
 -- ---- the check: what the way back keeps is the first fault in table order
 
-latest_append : (h : Fault) (a : List Fault) (x : Fault) → latest h (a ++ (x ∷ [])) ≡ cond (eqb x.number 0) (latest h a) x
-unfolding latest kept_of
-latest_append h [] x = refl
-latest_append h (y ∷ a) x = latest_append (kept_of h y.number y.start y.end) a x
+or_assoc : (x y z : Option Answer) → option_or x (option_or y z) ≡ option_or (option_or x y) z
+or_assoc None y z = refl
+or_assoc (Some a) y z = refl
 
-pub latest_is_first : (h : Fault) (xs : List Fault) → latest h (backward xs) ≡ first_of h xs
+latest_append : (h : Option Answer) (a : List (Option Answer)) (x : Option Answer) → latest h (a ++ (x ∷ [])) ≡ option_or x (latest h a)
+unfolding latest
+latest_append h [] x = refl
+latest_append h (y ∷ a) x = latest_append (option_or y h) a x
+
+latest_is_first : (h : Option Answer) (xs : List (Option Answer)) → latest h (backward xs) ≡ option_or (first_of xs) h
 unfolding latest first_of backward
 latest_is_first h [] = refl
-latest_is_first h (x ∷ xs) = latest_append h (backward xs) x ∙ ap (λ (z : Fault). cond (eqb x.number 0) z x) (latest_is_first h xs)
+latest_is_first h (x ∷ xs) = latest_append h (backward xs) x ∙ ap (option_or x) (latest_is_first h xs) ∙ or_assoc x (first_of xs) h
 
--- so a loop that goes back over the rows of a tree, with the count and the last fault met, ends with the tree's first fault
-pub check_finds : (f : ℕ → Row → Fault) (w : ℕ) {g : Forest} → Grown g → (h : Fault) → latest h (typed f w 0 (backs g)) ≡ first_of h (codes f w g)
+or_none : (x : Option Answer) → option_or x None ≡ x
+or_none None = refl
+or_none (Some a) = refl
+
+-- so a loop that goes back over the rows of a tree, with the count and the last fault met, ends with the tree's first fault, or where it has none with the one
+-- that the loop began with
+pub check_finds : (f : ℕ → Row → Option Answer) (w : ℕ) {g : Forest} → Grown g → (h : Option Answer) → latest h (typed f w 0 (backs g)) ≡ option_or (first_of (codes f w g)) h
 unfolding typed
 check_finds f w {g} s h =
-    ap (λ (z : List Row). latest h (typed f w 0 z)) (sym (append-nil (backs g))) ∙ ap (λ (z : List Fault). latest h z) (typed_codes f w s [] ∙ append-nil (backward (codes f w g)))
+    ap (λ (z : List Row). latest h (typed f w 0 z)) (sym (append-nil (backs g)))
+    ∙ ap (λ (z : List (Option Answer)). latest h z) (typed_codes f w s [] ∙ append-nil (backward (codes f w g)))
     ∙ latest_is_first h (codes f w g)
+
+-- and one that began with none, with the first fault alone
+pub check_starts : (f : ℕ → Row → Option Answer) (w : ℕ) {g : Forest} → Grown g → latest None (typed f w 0 (backs g)) ≡ first_of (codes f w g)
+check_starts f w {g} s = check_finds f w s None ∙ or_none (first_of (codes f w g))

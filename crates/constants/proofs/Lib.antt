@@ -1,7 +1,7 @@
 pub mod Told
 pub mod Compiled
 pub mod Writing
-pub mod Finished
+pub mod Ran
 pub mod Forests
 pub mod Faultless
 pub mod Whole

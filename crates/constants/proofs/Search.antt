@@ -1,4 +1,5 @@
 -- The row of a constant by its number, and that there is its tree.
+use Rattle.std.specs.Prelude.{Option, Some, None}
 use mathlib.Core.Path.{◌≡◌, refl, sym, ap, ◌∙◌, subst}
 use mathlib.Core.List.{List, [], ◌∷◌, ◌++◌, append_assoc, head-eq_of_cons-eq, tail-eq_of_cons-eq}
 use mathlib.Core.Bool.{Bool, true, false}
@@ -11,19 +12,16 @@ use Rattle.rows.specs.Kinds as kinds
 use Rattle.grammar.specs.Rows.{Row}
 use Rattle.grammar.specs.Subtrees.{total, EachRow, Subtree}
 use Rattle.numbers.proofs.Choices.{first, second, and_left, and_right}
-use Rattle.constants.specs.declared.Constant.{Constant}
-use Rattle.constants.specs.declared.Found.{Found}
 use Rattle.constants.specs.Trees.{Forest, none, tree, rows_of, trees, count, Grown, grown_none, grown_tree, row_at, rows_from}
-use Rattle.constants.specs.Answers.{refusal, is_constant, constants, Numbered}
+use Rattle.constants.specs.Answers.{Constant, refusal, is_constant, constants, Numbered}
 use Rattle.constants.specs.Steps.{worked_at, found_from, numbered_at, Placed, Table, WroteAt, WroteFor}
 use Rattle.constants.proofs.Forests.{trees_roots, count_roots, Planted, plant, rows_count, same_front}
-use Rattle.constants.proofs.Whole.{place, placed}
 
 module _ (t : List ℕ) (j n : ℕ) where
   abbrev here : Bool
   here = is_constant (row_at t j).kind (row_at t j).children
 
-  found_now : here ≡ true → found_from t j (suc n) zero ≡ Found.At j
+  found_now : here ≡ true → found_from t j (suc n) zero ≡ Some j
   unfolding found_from
   found_now h = sym (first _ h refl)
 
@@ -50,28 +48,28 @@ no_rows xs r ys e = let k : 0 ≡ length xs + suc (length ys) = ap length e ∙ 
 
 -- the constant before which there are k others is the one that is found
 pub found_at : (t : List ℕ) (j n : ℕ) (xs : List Row) (c : Row) (ys : List Row) (k : ℕ) → rows_from t j n ≡ xs ++ (c ∷ ys) → is_constant c.kind c.children ≡ true → constants xs ≡ k
-    → found_from t j n k ≡ Found.At (j + length xs)
+    → found_from t j n k ≡ Some (j + length xs)
 unfolding rows_from constants
 found_at t j zero xs c ys k e h m = absurd (no_rows xs c ys e)
 found_at t j (suc n) [] c ys k e h m =
-    ap (found_from t j (suc n)) (sym m) ∙ found_now t j n (ap (λ (r : Row). is_constant r.kind r.children) (head-eq_of_cons-eq e) ∙ h) ∙ ap (λ (i : ℕ). Found.At i) {x = j} {y = j + 0} (omega arith)
+    ap (found_from t j (suc n)) (sym m) ∙ found_now t j n (ap (λ (r : Row). is_constant r.kind r.children) (head-eq_of_cons-eq e) ∙ h) ∙ ap (λ (i : ℕ). Some i) {x = j} {y = j + 0} (omega arith)
 found_at t j (suc n) (x ∷ xs) c ys k e h m = go (is_constant x.kind x.children) refl (λ i z. found_at t (suc j) n xs c ys i (tail-eq_of_cons-eq e) h z)
   where
     same : is_constant (row_at t j).kind (row_at t j).children ≡ is_constant x.kind x.children
     same = ap (λ (r : Row). is_constant r.kind r.children) (head-eq_of_cons-eq e)
 
-    on : Found.At (suc j + length xs) ≡ Found.At (j + suc (length xs))
-    on = ap (λ (i : ℕ). Found.At i) {x = suc j + length xs} {y = j + suc (length xs)} (omega arith)
+    on : Some (suc j + length xs) ≡ Some (j + suc (length xs))
+    on = ap (λ (i : ℕ). Some i) {x = suc j + length xs} {y = j + suc (length xs)} (omega arith)
 
-    go : (b : Bool) → is_constant x.kind x.children ≡ b → ((i : ℕ) → constants xs ≡ i → found_from t (suc j) n i ≡ Found.At (suc j + length xs)) → found_from t j (suc n) k ≡ Found.At (j + suc (length xs))
+    go : (b : Bool) → is_constant x.kind x.children ≡ b → ((i : ℕ) → constants xs ≡ i → found_from t (suc j) n i ≡ Some (suc j + length xs)) → found_from t j (suc n) k ≡ Some (j + suc (length xs))
     go true q f = ap (found_from t j (suc n)) (sym m ∙ counts x xs q) ∙ found_next t j n (same ∙ q) (constants xs) ∙ f (constants xs) refl ∙ on
     go false q f = found_past t j n (same ∙ q) k ∙ f k (sym (skips x xs q) ∙ m) ∙ on
 
 -- what is found: a constant with k others before it, or that there are too few
 pub data View (t : List ℕ) (j n k : ℕ) : Type 0 where
   at_row : (xs ys : List Row) → rows_from t j n ≡ xs ++ (row_at t (j + length xs) ∷ ys) → is_constant (row_at t (j + length xs)).kind (row_at t (j + length xs)).children ≡ true → constants xs ≡ k
-      → found_from t j n k ≡ Found.At (j + length xs) → View t j n k
-  no_row : constants (rows_from t j n) ≤ k → found_from t j n k ≡ Found.None → View t j n k
+      → found_from t j n k ≡ Some (j + length xs) → View t j n k
+  no_row : constants (rows_from t j n) ≤ k → found_from t j n k ≡ None → View t j n k
 
 module _ (t : List ℕ) (j n : ℕ) where
   moved : (xs : List Row) → row_at t (suc j + length xs) ≡ row_at t (j + suc (length xs))
@@ -84,7 +82,7 @@ module _ (t : List ℕ) (j n : ℕ) where
       (ap (λ (z : List Row). row_at t j ∷ z) e ∙ ap (λ (r : Row). row_at t j ∷ (xs ++ (r ∷ ys))) (moved xs))
       (ap (λ (r : Row). is_constant r.kind r.children) (sym (moved xs)) ∙ h)
       (let z = c xs in omega (arith, z, m))
-      (g ∙ f ∙ ap (λ (x : ℕ). Found.At x) {x = suc j + length xs} {y = j + suc (length xs)} (omega arith))
+      (g ∙ f ∙ ap (λ (x : ℕ). Some x) {x = suc j + length xs} {y = j + suc (length xs)} (omega arith))
   further {k} {i} (no_row h f) g c = no_row (let z = c (rows_from t (suc j) n) in omega (arith, z, h)) (g ∙ f)
 
 pub view : (t : List ℕ) (j n k : ℕ) → View t j n k
@@ -96,7 +94,7 @@ view t j (suc n) k = go (is_constant (row_at t j).kind (row_at t j).children) re
     go true q zero f =
         at_row [] (rows_from t (suc j) n) (ap (λ (i : ℕ). row_at t i ∷ rows_from t (suc j) n) {x = j} {y = j + 0} (omega arith))
         (ap (λ (i : ℕ). is_constant (row_at t i).kind (row_at t i).children) {x = j + 0} {y = j} (omega arith) ∙ q) refl
-        (found_now t j n q ∙ ap (λ (i : ℕ). Found.At i) {x = j} {y = j + 0} (omega arith))
+        (found_now t j n q ∙ ap (λ (i : ℕ). Some i) {x = j} {y = j + 0} (omega arith))
     go true q (suc k) f = further t j n (f k) (found_next t j n q k) (λ rs. let z = counts (row_at t j) rs q in omega (arith, z))
     go false q k f = further t j n (f k) (found_past t j n q k) (λ rs. let z = skips (row_at t j) rs q in omega (arith, z))
 
@@ -157,13 +155,13 @@ module _ {rs : List Row} (each : EachRow rs) (xs ys : List Row) (c : Row) (e : r
 
 -- ---- what is found, for the code
 
-pub at_same : {i j : ℕ} → Found.At i ≡ Found.At j → i ≡ j
+pub at_same : {i j : ℕ} → Some i ≡ Some j → i ≡ j
 at_same e = cc
 
-never_at : {i : ℕ} → Found.None ≡ Found.At i → ⊥
+never_at : {i : ℕ} → None ≡ Some i → ⊥
 never_at e = let z : ◌≡◌ {A = ℕ} 0 1 = cc in omega arith
 
-pub found_placed : (t : List ℕ) (n k i : ℕ) (x : Found) → Table t n → x ≡ found_from t 0 n k → x ≡ Found.At i → Placed t i
+pub found_placed : (t : List ℕ) (n k i : ℕ) (x : Option ℕ) → Table t n → x ≡ found_from t 0 n k → x ≡ Some i → Placed t i
 found_placed t n k i x b e f = go (view t 0 n k)
   where
     go : View t 0 n k → Placed t i
@@ -173,19 +171,19 @@ found_placed t n k i x b e f = go (view t 0 n k)
         subst (Placed t) u (b.placed (0 + length xs) (omega (arith, l)) h)
     go (no_row h g) = absurd (never_at (sym g ∙ sym e ∙ f))
 
-module _ (s : List ℕ) (room : ℕ) (t : List ℕ) (n k : ℕ) (x : Found) (e : x ≡ found_from t 0 n k) where
-  pub row_says : {i : ℕ} {c : Constant} → x ≡ Found.At i → c ≡ worked_at s room t i → c ≡ numbered_at s room t (found_from t 0 n k)
+module _ (s : List ℕ) (room : ℕ) (t : List ℕ) (n k : ℕ) (x : Option ℕ) (e : x ≡ found_from t 0 n k) where
+  pub row_says : {i : ℕ} {c : Constant} → x ≡ Some i → c ≡ worked_at s room t i → c ≡ numbered_at s room t (found_from t 0 n k)
   unfolding numbered_at
   row_says f u = u ∙ ap (numbered_at s room t) (sym f ∙ e)
 
-  pub none_says : {c : Constant} → x ≡ Found.None → c ≡ refusal 15 0 0 → c ≡ numbered_at s room t (found_from t 0 n k)
+  pub none_says : {c : Constant} → x ≡ None → c ≡ refusal 15 0 0 → c ≡ numbered_at s room t (found_from t 0 n k)
   unfolding numbered_at
   none_says f u = u ∙ ap (numbered_at s room t) (sym f ∙ e)
 
-  pub row_wrote : {i : ℕ} (l : List ℕ) (c : Constant) → x ≡ Found.At i → WroteAt s t i l c → WroteFor s t (found_from t 0 n k) l c
+  pub row_wrote : {i : ℕ} (l : List ℕ) (c : Constant) → x ≡ Some i → WroteAt s t i l c → WroteFor s t (found_from t 0 n k) l c
   unfolding WroteFor
-  row_wrote l c f w = subst (λ (g : Found). WroteFor s t g l c) (sym f ∙ e) w
+  row_wrote l c f w = subst (λ (g : Option ℕ). WroteFor s t g l c) (sym f ∙ e) w
 
-  pub none_wrote : (l : List ℕ) (c : Constant) → x ≡ Found.None → WroteFor s t (found_from t 0 n k) l c
+  pub none_wrote : (l : List ℕ) (c : Constant) → x ≡ None → WroteFor s t (found_from t 0 n k) l c
   unfolding WroteFor
-  none_wrote l c f = subst (λ (g : Found). WroteFor s t g l c) (sym f ∙ e) tt
+  none_wrote l c f = subst (λ (g : Option ℕ). WroteFor s t g l c) (sym f ∙ e) tt

@@ -1,65 +1,45 @@
 -- What an arm of the code knows, put into the definitions.
+use Rattle.std.specs.Prelude.{Some, None, Option}
 use mathlib.Core.Path.{◌≡◌, refl, sym, ap, ◌∙◌}
-use mathlib.Core.List.{List, []}
+use mathlib.Core.List.{List}
 use mathlib.Core.Bool.{Bool, true, false, ◌&&◌, ◌||◌, cond}
-use Prim.Native.Nat.{ℕ, ◌<◌, ◌≤◌}
+use Prim.Native.Nat.{ℕ, ◌≤◌}
 use lib.Dec.{eqb, leb}
-use lib.ListN.{length}
-use lib.Seq.{slice}
-use borrow.Author.Tests.{le-leb, lt-leb, eq-eqb, ne_eqb}
-use Rattle.numbers.proofs.Choices.{first, second, and, not_left, not_right}
+use borrow.Author.Tests.{le-leb, eq-eqb, ne_eqb}
+use Rattle.numbers.proofs.Choices.{first, second}
 use Rattle.floats.specs.Nearest.{format_of}
 use Rattle.floats.specs.Bits.{bits_of}
-use Rattle.literals.specs.declared.Alone.{Alone}
+use Rattle.literals.specs.Results.{Alone}
 use Rattle.literals.specs.declared.Answer.{Answer}
 use Rattle.literals.specs.Decimals.{few, numerator, denominator}
 use Rattle.literals.specs.Answers.{alone_of, refusal, Permitted}
 use Rattle.literals.proofs.Answered.{accepted, answer_for, answer_of, the_answer}
 use Rattle.constants.specs.Types.{U64, F64, text_at, number_for, bits_for, float_number, float_bits, fine, float_fault}
 
--- ---- the bytes that a row spans
-
-module _ (s : List ℕ) (start end : ℕ) where
-  pub text_early : end < start → [] ≡ text_at s start end
-  unfolding text_at
-  text_early h = second (slice start end s) (not_left (leb end (length s)) (lt-leb start end h)) refl
-
-  pub text_late : length s < end → [] ≡ text_at s start end
-  unfolding text_at
-  text_late h = second (slice start end s) (not_right (leb start end) (lt-leb end (length s) h)) refl
-
-  pub text_there : {t : List ℕ} → start ≤ end → end ≤ length s → t ≡ slice start end s → t ≡ text_at s start end
-  unfolding text_at
-  text_there h k e = first [] (and (le-leb start end h) (le-leb end (length s) k)) e
-
 -- ---- an integer's fault
 
-pub integer_in : (w : ℕ) (b : Bool) {r : ℕ} → w ≤ 8 → r ≡ fine b → r ≡ fine (leb w U64 && b)
+pub integer_in : (w : ℕ) (b : Bool) {r : Option ℕ} → w ≤ 8 → r ≡ fine b → r ≡ fine (leb w U64 && b)
 integer_in w b h e = e ∙ ap (λ (t : Bool). fine (t && b)) (sym (le-leb w 8 h))
-
-pub integer_out : (w : ℕ) (b : Bool) → 8 < w → 15 ≡ fine (leb w U64 && b)
-unfolding fine
-integer_out w b h = ap (λ (t : Bool). fine (t && b)) (sym (lt-leb w 8 h))
 
 -- ---- C-17's answer
 
 number_of : (k : Alone) (t : List ℕ) → (answer_for k t).number ≡ number_for k t
 unfolding answer_for number_for
-number_of (Alone.Float w) t = go (few t)
+number_of (Some w) t = go (few t)
   where
     go : (b : Bool) → (cond b (accepted w t (bits_of (format_of w) (numerator t) (denominator t))) (refusal 14 t)).number ≡ cond b 0 14
     go true = refl
     go false = refl
-number_of Alone.None t = refl
+number_of None t = refl
 
 pub bits_of_lem : (k : Alone) (t : List ℕ) → (answer_for k t).bits ≡ bits_for k t
 unfolding answer_for bits_for
-bits_of_lem (Alone.Float w) t = go (few t)
+bits_of_lem (Some w) t = go (few t)
   where
     go : (b : Bool) → (cond b (accepted w t (bits_of (format_of w) (numerator t) (denominator t))) (refusal 14 t)).bits ≡ cond b (bits_of (format_of w) (numerator t) (denominator t)) 0
     go true = refl
     go false = refl
-bits_of_lem Alone.None t = refl
+bits_of_lem None t = refl
 
 module _ (s : List ℕ) (start end : ℕ) (t : List ℕ) (a : Answer) (e : t ≡ text_at s start end) (p : Permitted t a) where
   its : a ≡ answer_of (text_at s start end)
@@ -75,10 +55,10 @@ module _ (s : List ℕ) (start end : ℕ) (t : List ℕ) (a : Answer) (e : t ≡
   bits_said = ap (λ (x : Answer). x.bits) its ∙ bits_of_lem (alone_of (text_at s start end)) (text_at s start end)
 
 module _ (n m w detail : ℕ) (e : m ≡ n) where
-  pub float_long : m ≡ 14 → 14 ≡ float_fault n w detail
+  pub float_long : m ≡ 14 → Some 14 ≡ float_fault n w detail
   unfolding float_fault
   float_long h = first _ (eq-eqb n 14 (sym e ∙ h)) refl
 
-  pub float_short : {r : ℕ} → (m ≡ 14 → ⊥) → r ≡ fine ((eqb m 0 && eqb w F64) && (eqb detail 0 || eqb detail F64)) → r ≡ float_fault n w detail
+  pub float_short : {r : Option ℕ} → (m ≡ 14 → ⊥) → r ≡ fine ((eqb m 0 && eqb w F64) && (eqb detail 0 || eqb detail F64)) → r ≡ float_fault n w detail
   unfolding float_fault
-  float_short h g = second 14 (ne_eqb n 14 (λ k. h (e ∙ k))) (g ∙ ap (λ (x : ℕ). fine ((eqb x 0 && eqb w F64) && (eqb detail 0 || eqb detail F64))) e)
+  float_short h g = second (Some 14) (ne_eqb n 14 (λ k. h (e ∙ k))) (g ∙ ap (λ (x : ℕ). fine ((eqb x 0 && eqb w F64) && (eqb detail 0 || eqb detail F64))) e)

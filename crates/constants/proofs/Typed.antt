@@ -1,4 +1,5 @@
 -- A tree without faults has a value of the type that is wanted of it.
+use Rattle.std.specs.Prelude.{Some, None, Option, Ok}
 use mathlib.Core.Path.{◌≡◌, refl, sym, ap, ◌∙◌, subst}
 use mathlib.Core.List.{List}
 use mathlib.Core.Bool.{Bool, true, false, ◌&&◌, ◌||◌, cond}
@@ -6,18 +7,18 @@ use mathlib.Core.Logic.{◌⊎◌, inl, inr}
 use Prim.Native.Nat.{ℕ, zero, suc, ◌/◌, ◌%◌, ◌<◌, ◌≤◌}
 use native.Mathlib.Nat.{mod-lt, mod-le, lt_of_le_of_lt, lt_of_lt_of_le, le_trans, le_of_lt}
 use native.Mathlib.Omega.{arith}
-use lib.Dec.{T, eqb, leb, lit<, lit≤}
+use lib.Dec.{eqb, leb, lit<, lit≤}
 use lib.IntN.{ℤ, pos, negsuc, neg_ℤ, nat_abs, ◌+ℤ◌, ◌-ℤ◌, ◌*ℤ◌}
 use lib.Signed.{quot_z, rem_z}
 use lib.Ieee.{Float, binary64, of_bits, nan_bits, top}
 use lib.Ieee.Bits.{nan_bits_above}
-use borrow.Author.Tests.{eqb-true, leb-true, leb-false, le-ltb}
+use borrow.Author.Tests.{eqb-true, leb-true, leb-false, le-ltb, ne_eqb}
 use Rattle.grammar.specs.Rows.{Row}
 use Rattle.numbers.specs.Numbers.{ceiling_of}
 use Rattle.numbers.proofs.Choices.{and_left, and_right}
 use Rattle.floats.specs.declared.Width.{Width}
 use Rattle.floats.specs.Nearest.{format_of, infinite}
-use Rattle.literals.specs.declared.Alone.{Alone}
+use Rattle.literals.specs.Results.{Alone}
 use Rattle.literals.specs.Decimals.{few}
 use Rattle.literals.specs.Answers.{alone_of, Says, Counted, Permitted as Answered}
 use Rattle.literals.proofs.Answered.{answer_of, an_answer}
@@ -25,25 +26,22 @@ use Rattle.wholes.specs.declared.Integer.{Integer}
 use Rattle.wholes.specs.Wholes.{span, lowest, number, or_none, quotient_of, remainder_of}
 use Rattle.wholes.proofs.Laws.{some}
 use Rattle.machine.specs.declared.Value.{Value}
-use Rattle.machine.specs.declared.Step.{Step}
 use Rattle.machine.specs.declared.Op.{Op}
 use Rattle.machine.specs.declared.Logic.{Logic}
 use Rattle.machine.specs.declared.Order.{Order}
 use Rattle.machine.specs.declared.Sum.{Sum}
-use Rattle.machine.specs.declared.Named.{Named}
 use Rattle.machine.specs.Values.{op_of, integer_of, literal_value, negated_of, single_of, part_of, whole_of, wholes_of, numbers_of, floats_of, truths_of, double_of}
 use Rattle.machine.specs.Machine.{wide}
-use Rattle.constants.specs.declared.Constant.{Constant}
-use Rattle.constants.specs.Answers.{Permitted, unread, absent, there}
+use Rattle.constants.specs.Answers.{Constant, Permitted, unread, absent, there}
 use Rattle.constants.specs.Trees.{Forest, none, tree, trees, Grown, grown_tree}
-use Rattle.constants.specs.Types.{I64, F64, compares, under, type_of, declared_of, number_for, bits_for, float_number, float_bits, text_at, fine, integer_fault, float_fault, operator_fault}
+use Rattle.constants.specs.Types.{compares, under, type_of, named_of, declared_of, number_for, bits_for, float_number, float_bits, text_at, fine, integer_fault, float_fault, operator_fault}
 use Rattle.constants.specs.Meaning.{Outcome, is, stop, held_of, stepped, of_one, of_two, meaning}
-use Rattle.constants.specs.Lists.{codes, no_fault, fault_of, first_of}
+use Rattle.constants.specs.Lists.{codes, fault_of, first_of}
 use Rattle.constants.specs.Fitting.{Fits, whole, float, truth}
 use Rattle.constants.proofs.Told.{bits_of_lem}
 use Rattle.constants.proofs.Accepted.{refused_is, accepted_is}
 use Rattle.constants.proofs.Whole.{tree_grown}
-use Rattle.constants.proofs.Faultless.{Taken, an_integer, a_float, a_bool, an_operator, a_not, a_minus, taken_row, few_operands, Fine, fine_tree, all_fine}
+use Rattle.constants.proofs.Faultless.{some_none, Taken, an_integer, a_float, a_bool, an_operator, a_not, a_minus, taken_row, few_operands, Fine, fine_tree, all_fine}
 
 -- a value of the type, or a stop
 pub data Typed (w : ℕ) : Outcome → Type 0 where
@@ -52,12 +50,12 @@ pub data Typed (w : ℕ) : Outcome → Type 0 where
 
 -- ---- tests that passed
 
-fine_true : (b : Bool) → fine b ≡ 0 → b ≡ true
+fine_true : (b : Bool) → fine b ≡ None → b ≡ true
 unfolding fine
 fine_true true e = refl
-fine_true false e = absurd (omega (arith, e))
+fine_true false e = absurd (some_none e)
 
-wants : (w k : ℕ) → fine (eqb w k) ≡ 0 → w ≡ k
+wants : (w k : ℕ) → fine (eqb w k) ≡ None → w ≡ k
 wants w k e = eqb-true w k (fine_true (eqb w k) e)
 
 or_true : (a b : Bool) → (a || b) ≡ true → (a ≡ true) ⊎ (b ≡ true)
@@ -71,7 +69,7 @@ unfolding lowest
 lowest_below m h (pos n) = mod-lt n h
 lowest_below m h (negsuc n) = omega (arith, h)
 
-whole_type : (w : ℕ) → w ≤ 8 → (t : Integer) × (integer_of (type_of w) ≡ Named.Of t) × (ceiling_of w < span t)
+whole_type : (w : ℕ) → w ≤ 8 → (t : Integer) × (integer_of (type_of w) ≡ Some t) × (ceiling_of w < span t)
 unfolding integer_of type_of ceiling_of
 whole_type zero h = (Integer.I64, refl, lit< tt)
 whole_type (suc zero) h = (Integer.I8, refl, lit< tt)
@@ -84,15 +82,15 @@ whole_type (suc (suc (suc (suc (suc (suc (suc zero))))))) h = (Integer.U32, refl
 whole_type (suc (suc (suc (suc (suc (suc (suc (suc zero)))))))) h = (Integer.U64, refl, lit< tt)
 whole_type (suc (suc (suc (suc (suc (suc (suc (suc (suc w))))))))) h = absurd (omega (arith, h))
 
-no_float : {t : Integer} → integer_of 10 ≡ Named.Of t → ⊥
+no_float : {t : Integer} → integer_of 10 ≡ Some t → ⊥
 unfolding integer_of
 no_float e = let z : ◌≡◌ {A = ℕ} 0 1 = cc in omega arith
 
-no_truth : {t : Integer} → integer_of 12 ≡ Named.Of t → ⊥
+no_truth : {t : Integer} → integer_of 12 ≡ Some t → ⊥
 unfolding integer_of
 no_truth e = let z : ◌≡◌ {A = ℕ} 0 1 = cc in omega arith
 
-as_whole : {w : ℕ} {v : Value} {t : Integer} → Fits w v → integer_of w ≡ Named.Of t → (n : ℕ) × (v ≡ Value.Whole n)
+as_whole : {w : ℕ} {v : Value} {t : Integer} → Fits w v → integer_of w ≡ Some t → (n : ℕ) × (v ≡ Value.Whole n)
 as_whole (whole {n = n} e h) f = (n, refl)
 as_whole float f = absurd (no_float f)
 as_whole truth f = absurd (no_truth f)
@@ -125,10 +123,10 @@ float_finite t e = subst (λ (b : ℕ). b < infinite binary64) (bits_of_lem (alo
     counted w false c e = absurd (omega (arith, e))
 
     go : (k : Alone) → Says k t (answer_of t) → number_for k t ≡ 0 → (answer_of t).bits < infinite binary64
-    go (Alone.Float w) x e = counted w (few t) x e
-    go Alone.None x e = absurd (omega (arith, e))
+    go (Some w) x e = counted w (few t) x e
+    go None x e = absurd (omega (arith, e))
 
-integer_typed : (w value detail : ℕ) → integer_fault w value detail ≡ 0 → Fits (type_of w) (Value.Whole value)
+integer_typed : (w value detail : ℕ) → integer_fault w value detail ≡ None → Fits (type_of w) (Value.Whole value)
 unfolding integer_fault
 integer_typed w value detail e =
     let h = fine_true (leb w 8 && ((eqb detail 0 || eqb detail w) && leb value (ceiling_of w))) e in
@@ -136,7 +134,7 @@ integer_typed w value detail e =
     let m = leb-true value (ceiling_of w) (and_right (eqb detail 0 || eqb detail w) (leb value (ceiling_of w)) (and_right (leb w 8) ((eqb detail 0 || eqb detail w) && leb value (ceiling_of w)) h)) in
     whole {t = k.0} k.1 (lt_of_le_of_lt m k.2)
 
-float_typed : (s : List ℕ) (start end w detail : ℕ) → float_fault (float_number s start end) w detail ≡ 0
+float_typed : (s : List ℕ) (start end w detail : ℕ) → float_fault (float_number s start end) w detail ≡ None
     → Typed (type_of w) (is (cond (nan_bits binary64 (float_bits s start end)) (Value.Truth false) (Value.Float (of_bits binary64 (float_bits s start end)))))
 unfolding float_fault float_number float_bits type_of
 float_typed s start end w detail = go (eqb n 14)
@@ -147,8 +145,8 @@ float_typed s start end w detail = go (eqb n 14)
     b : ℕ
     b = bits_for (alone_of (text_at s start end)) (text_at s start end)
 
-    go : (t : Bool) → cond t 14 (fine ((eqb n 0 && eqb w 10) && (eqb detail 0 || eqb detail 10))) ≡ 0 → Typed (type_of w) (is (cond (nan_bits binary64 b) (Value.Truth false) (Value.Float (of_bits binary64 b))))
-    go true e = absurd (omega (arith, e))
+    go : (t : Bool) → cond t (Some 14) (fine ((eqb n 0 && eqb w 10) && (eqb detail 0 || eqb detail 10))) ≡ None → Typed (type_of w) (is (cond (nan_bits binary64 b) (Value.Truth false) (Value.Float (of_bits binary64 b))))
+    go true e = absurd (some_none e)
     go false e =
         let h = and_left (eqb n 0 && eqb w 10) (eqb detail 0 || eqb detail 10) (fine_true ((eqb n 0 && eqb w 10) && (eqb detail 0 || eqb detail 10)) e) in
         subst (λ (x : ℕ). Typed (type_of x) (is (cond (nan_bits binary64 b) (Value.Truth false) (Value.Float (of_bits binary64 b))))) (sym (eqb-true w 10 (and_right (eqb n 0) (eqb w 10) h)))
@@ -177,7 +175,7 @@ minus_whole kind w h a f =
     let k = whole_type w h in
     let p = as_whole f k.1 in
     subst (λ (v : Value). Fits (type_of w) (single_of kind (type_of w) v)) (sym p.1)
-    (subst (λ (i : Named). Fits (type_of w) (negated_of i p.0)) (sym k.1) (whole {t = k.0} k.1 (lowest_below (span k.0) (some k.0) (neg_ℤ (number k.0 p.0)))))
+    (subst (λ (i : Option Integer). Fits (type_of w) (negated_of i p.0)) (sym k.1) (whole {t = k.0} k.1 (lowest_below (span k.0) (some k.0) (neg_ℤ (number k.0 p.0)))))
 
 minus_float : (kind w : ℕ) → w ≡ 10 → (a : Value) → Fits (type_of w) a → Fits (type_of w) (single_of kind (type_of w) a)
 unfolding single_of type_of
@@ -201,9 +199,9 @@ one_typed {w = w} (a_minus h) e a f = minus_typed 22 w (or_true (leb w 4) (eqb w
 -- ---- two operands
 
 data OpView (w detail : ℕ) : Type 0 where
-  joins : (o : Logic) → w ≡ 12 → op_of detail ≡ Op.Joins o → compares 20 detail ≡ false → OpView w detail
-  orders : (o : Order) → w ≡ 12 → op_of detail ≡ Op.Compares o → compares 20 detail ≡ true → OpView w detail
-  sums : (o : Sum) → (w ≤ 8) ⊎ (w ≡ 10) → op_of detail ≡ Op.Counts o → compares 20 detail ≡ false → OpView w detail
+  joins : (o : Logic) → w ≡ 12 → op_of detail ≡ Some (Op.Joins o) → compares 20 detail ≡ false → OpView w detail
+  orders : (o : Order) → w ≡ 12 → op_of detail ≡ Some (Op.Compares o) → compares 20 detail ≡ true → OpView w detail
+  sums : (o : Sum) → (w ≤ 8) ⊎ (w ≡ 10) → op_of detail ≡ Some (Op.Counts o) → compares 20 detail ≡ false → OpView w detail
 
 low : (w d : ℕ) → 1 ≤ d → d ≤ 8 → w ≡ 12 → OpView w d
 unfolding op_of compares
@@ -236,7 +234,7 @@ high w (suc (suc (suc (suc (suc (suc (suc (suc (suc (suc (suc (suc zero)))))))))
 high w (suc (suc (suc (suc (suc (suc (suc (suc (suc (suc (suc (suc (suc zero))))))))))))) h k e = sums Sum.Rest e refl refl
 high w (suc (suc (suc (suc (suc (suc (suc (suc (suc (suc (suc (suc (suc (suc d)))))))))))))) h k e = absurd (omega (arith, k))
 
-operator_view : (w d : ℕ) → operator_fault w d ≡ 0 → OpView w d
+operator_view : (w d : ℕ) → operator_fault w d ≡ None → OpView w d
 unfolding operator_fault
 operator_view w d = go (leb d 8) refl
   where
@@ -244,7 +242,7 @@ operator_view w d = go (leb d 8) refl
     numeric (inl h) = inl (leb-true w 8 h)
     numeric (inr h) = inr (eqb-true w 10 h)
 
-    go : (t : Bool) → leb d 8 ≡ t → cond t (fine (leb 1 d && eqb w 12)) (fine (leb d 13 && (leb w 8 || eqb w 10))) ≡ 0 → OpView w d
+    go : (t : Bool) → leb d 8 ≡ t → cond t (fine (leb 1 d && eqb w 12)) (fine (leb d 13 && (leb w 8 || eqb w 10))) ≡ None → OpView w d
     go true q e =
         let h = fine_true (leb 1 d && eqb w 12) e in
         low w d (leb-true 1 d (and_left (leb 1 d) (eqb w 12) h)) (leb-true d 8 q) (eqb-true w 12 (and_right (leb 1 d) (eqb w 12) h))
@@ -253,12 +251,12 @@ operator_view w d = go (leb d 8) refl
         high w d (leb-false d 8 q) (leb-true d 13 (and_left (leb d 13) (leb w 8 || eqb w 10) h)) (numeric (or_true (leb w 8) (eqb w 10) (and_right (leb d 13) (leb w 8 || eqb w 10) h)))
 
 module _ (r : Row) where
-  part_typed : (ty : ℕ) (t : Integer) → integer_of ty ≡ Named.Of t → (b : Bool) (z : ℤ) → Typed ty (stepped r (part_of (or_none b (lowest (span t) z))))
+  part_typed : (ty : ℕ) (t : Integer) → integer_of ty ≡ Some t → (b : Bool) (z : ℤ) → Typed ty (stepped r (part_of (or_none b (lowest (span t) z))))
   unfolding part_of stepped or_none
   part_typed ty t g true z = typed_stop
   part_typed ty t g false z = typed_is (whole g (lowest_below (span t) (some t) z))
 
-  sum_typed : (ty : ℕ) (o : Sum) (t : Integer) → integer_of ty ≡ Named.Of t → (n m : ℕ) → Typed ty (stepped r (whole_of o t n m))
+  sum_typed : (ty : ℕ) (o : Sum) (t : Integer) → integer_of ty ≡ Some t → (n m : ℕ) → Typed ty (stepped r (whole_of o t n m))
   unfolding whole_of part_of stepped quotient_of remainder_of or_none
   sum_typed ty Sum.Plus t g n m = typed_is (whole g (lowest_below (span t) (some t) (number t n +ℤ number t m)))
   sum_typed ty Sum.Minus t g n m = typed_is (whole g (lowest_below (span t) (some t) (number t n -ℤ number t m)))
@@ -266,37 +264,37 @@ module _ (r : Row) where
   sum_typed ty Sum.Over t g n m = part_typed ty t g (eqb (nat_abs (number t m)) 0) (quot_z (number t n) (number t m))
   sum_typed ty Sum.Rest t g n m = part_typed ty t g (eqb (nat_abs (number t m)) 0) (rem_z (number t n) (number t m))
 
-  wholes_typed : (ty d : ℕ) (o : Sum) (t : Integer) → op_of d ≡ Op.Counts o → integer_of ty ≡ Named.Of t → (a b : Value) → Fits ty a → Fits ty b → Typed ty (stepped r (double_of ty d a b))
+  wholes_typed : (ty d : ℕ) (o : Sum) (t : Integer) → op_of d ≡ Some (Op.Counts o) → integer_of ty ≡ Some t → (a b : Value) → Fits ty a → Fits ty b → Typed ty (stepped r (double_of ty d a b))
   unfolding double_of numbers_of wholes_of
   wholes_typed ty d o t f g a b x y =
       let p = as_whole x g in
       let q = as_whole y g in
       subst (λ (v : Value). Typed ty (stepped r (double_of ty d v b))) (sym p.1) (subst (λ (v : Value). Typed ty (stepped r (double_of ty d (Value.Whole p.0) v))) (sym q.1)
-      (subst (λ (z : Op). Typed ty (stepped r (numbers_of z (integer_of ty) p.0 q.0))) (sym f) (subst (λ (i : Named). Typed ty (stepped r (wholes_of o i p.0 q.0))) (sym g) (sum_typed ty o t g p.0 q.0))))
+      (subst (λ (z : Option Op). Typed ty (stepped r (numbers_of z (integer_of ty) p.0 q.0))) (sym f) (subst (λ (i : Option Integer). Typed ty (stepped r (wholes_of o i p.0 q.0))) (sym g) (sum_typed ty o t g p.0 q.0))))
 
-  floats_typed : (d : ℕ) (o : Sum) → op_of d ≡ Op.Counts o → (a b : Value) → Fits 10 a → Fits 10 b → Typed 10 (stepped r (double_of 10 d a b))
+  floats_typed : (d : ℕ) (o : Sum) → op_of d ≡ Some (Op.Counts o) → (a b : Value) → Fits 10 a → Fits 10 b → Typed 10 (stepped r (double_of 10 d a b))
   unfolding double_of floats_of stepped
   floats_typed d o f a b x y =
       let p = as_float x refl in
       let q = as_float y refl in
       subst (λ (v : Value). Typed 10 (stepped r (double_of 10 d v b))) (sym p.1) (subst (λ (v : Value). Typed 10 (stepped r (double_of 10 d (Value.Float p.0) v))) (sym q.1)
-      (subst (λ (z : Op). Typed 10 (stepped r (Step.To (floats_of z p.0 q.0)))) (sym f) (typed_is float)))
+      (subst (λ (z : Option Op). Typed 10 (stepped r (Some (floats_of z p.0 q.0)))) (sym f) (typed_is float)))
 
-  orders_typed : (d : ℕ) (o : Order) → op_of d ≡ Op.Compares o → (a b : Value) → Fits 4 a → Fits 4 b → Typed 12 (stepped r (double_of 12 d a b))
+  orders_typed : (d : ℕ) (o : Order) → op_of d ≡ Some (Op.Compares o) → (a b : Value) → Fits 4 a → Fits 4 b → Typed 12 (stepped r (double_of 12 d a b))
   unfolding double_of numbers_of stepped integer_of
   orders_typed d o f a b x y =
       let p = as_whole {t = Integer.I64} x refl in
       let q = as_whole {t = Integer.I64} y refl in
       subst (λ (v : Value). Typed 12 (stepped r (double_of 12 d v b))) (sym p.1) (subst (λ (v : Value). Typed 12 (stepped r (double_of 12 d (Value.Whole p.0) v))) (sym q.1)
-      (subst (λ (z : Op). Typed 12 (stepped r (numbers_of z (integer_of 12) p.0 q.0))) (sym f) (typed_is truth)))
+      (subst (λ (z : Option Op). Typed 12 (stepped r (numbers_of z (integer_of 12) p.0 q.0))) (sym f) (typed_is truth)))
 
-  joins_typed : (d : ℕ) (o : Logic) → op_of d ≡ Op.Joins o → (a b : Value) → Fits 12 a → Fits 12 b → Typed 12 (stepped r (double_of 12 d a b))
+  joins_typed : (d : ℕ) (o : Logic) → op_of d ≡ Some (Op.Joins o) → (a b : Value) → Fits 12 a → Fits 12 b → Typed 12 (stepped r (double_of 12 d a b))
   unfolding double_of truths_of stepped
   joins_typed d o f a b x y =
       let p = as_truth x refl in
       let q = as_truth y refl in
       subst (λ (v : Value). Typed 12 (stepped r (double_of 12 d v b))) (sym p.1) (subst (λ (v : Value). Typed 12 (stepped r (double_of 12 d (Value.Truth p.0) v))) (sym q.1)
-      (subst (λ (z : Op). Typed 12 (stepped r (Step.To (truths_of z p.0 q.0)))) (sym f) (typed_is truth)))
+      (subst (λ (z : Option Op). Typed 12 (stepped r (Some (truths_of z p.0 q.0)))) (sym f) (typed_is truth)))
 
   two_typed : (w d : ℕ) → OpView w d → (a b : Value) → Fits (type_of (cond (compares 20 d) 0 w)) a → Fits (type_of (cond (compares 20 d) 0 w)) b → Typed (type_of w) (stepped r (double_of (type_of w) d a b))
   unfolding type_of
@@ -338,7 +336,7 @@ of_two_lem w r k c (typed_is {v = a} f) (typed_is {v = b} g) =
 of_two_lem w r k c (typed_is f) typed_stop = typed_stop
 of_two_lem w r k c typed_stop y = typed_stop
 
-typed : (s : List ℕ) (w : ℕ) (r : Row) (kids : Forest) → r.children ≡ trees kids → Grown kids → (fault_of s w r).number ≡ 0 → Fine s (under w r) kids → Typed (type_of w) (meaning s w r kids)
+typed : (s : List ℕ) (w : ℕ) (r : Row) (kids : Forest) → r.children ≡ trees kids → Grown kids → fault_of s w r ≡ None → Fine s (under w r) kids → Typed (type_of w) (meaning s w r kids)
 unfolding meaning trees
 typed s w r none c g e f = literal_typed (taken_row s w r e) c
 typed s w r (tree a ka none) c (grown_tree ca za ga gt) e (fine_tree ea fa ft) = of_one_lem w r (taken_row s w r e) c (typed s (under w r) a ka ca ga ea fa)
@@ -353,7 +351,7 @@ its_value {w} {o} {v} k e = go (subst (Typed w) e k)
     go (typed_is f) = f
 
 -- a tree without faults has a value of the type wanted of it
-pub typed_value : (s : List ℕ) (w : ℕ) (r : Row) (kids : Forest) → Grown (tree r kids none) → (first_of no_fault (codes (fault_of s) w (tree r kids none))).number ≡ 0 → {v : Value} → meaning s w r kids ≡ is v → Fits (type_of w) v
+pub typed_value : (s : List ℕ) (w : ℕ) (r : Row) (kids : Forest) → Grown (tree r kids none) → first_of (codes (fault_of s) w (tree r kids none)) ≡ None → {v : Value} → meaning s w r kids ≡ is v → Fits (type_of w) v
 typed_value s w r kids g e {v} m = go g (all_fine s w (tree r kids none) e)
   where
     go : Grown (tree r kids none) → Fine s w (tree r kids none) → Fits (type_of w) v
@@ -361,13 +359,33 @@ typed_value s w r kids g e {v} m = go g (all_fine s w (tree r kids none) e)
 
 -- ---- so every accepted constant holds a value of its declared type
 
-own_type : (w : ℕ) → eqb w 0 ≡ false → type_of w ≡ w
+own_type : (w : ℕ) → 0 < w → type_of w ≡ w
 unfolding type_of
-own_type w e = ap (λ (b : Bool). cond b 4 w) e
+own_type w h = ap (λ (b : Bool). cond b 4 w) (ne_eqb w 0 (λ e. omega (arith, h, e)))
 
-pub holds_type : (tests : Bool) (s : List ℕ) (k size list : ℕ) {c : Constant} {T L : List ℕ} → Permitted tests s k size list c T L → {v : Value} {w n : ℕ} → c ≡ Constant.Is v w n → Fits w v
+-- a declared type is not the one wanted under a comparison
+one_more : (b : Bool) (n : ℕ) (rest : Option ℕ) → 0 < n → ((w : ℕ) → rest ≡ Some w → 0 < w) → (w : ℕ) → cond b (Some n) rest ≡ Some w → 0 < w
+one_more true n rest h f w e = let k : n ≡ w = cc in omega (arith, h, k)
+one_more false n rest h f w e = f w e
+
+no_more : (w : ℕ) → ◌≡◌ {A = Option ℕ} None (Some w) → 0 < w
+no_more w e = absurd (some_none (sym e))
+
+named : (t : List ℕ) (w : ℕ) → named_of t ≡ Some w → 0 < w
+unfolding named_of
+named t = one_more _ 1 _ (lit< tt) (one_more _ 2 _ (lit< tt) (one_more _ 3 _ (lit< tt) (one_more _ 4 _ (lit< tt) (one_more _ 5 _ (lit< tt) (one_more _ 6 _ (lit< tt) (one_more _ 7 _ (lit< tt) (one_more _ 8 _ (lit< tt) (one_more _ 10 _ (lit< tt) (one_more _ 12 _ (lit< tt) no_more)))))))))
+
+not_bare : (s : List ℕ) (kind start end w : ℕ) → declared_of s kind start end ≡ Some w → 0 < w
+unfolding declared_of
+not_bare s kind start end w = go (eqb kind 6)
+  where
+    go : (b : Bool) → cond b (named_of (text_at s start end)) None ≡ Some w → 0 < w
+    go true e = named (text_at s start end) w e
+    go false e = no_more w e
+
+pub holds_type : (tests : Bool) (s : List ℕ) (k size list : ℕ) {c : Constant} {T L : List ℕ} → Permitted tests s k size list c T L → {v : Value} {w n : ℕ} → c ≡ Ok (record { value = v; ty = w; count = n }) → Fits w v
 holds_type tests s k size list (unread p h) e = absurd (refused_is _ _ _ e)
 holds_type tests s k size list (absent p z h) e = absurd (refused_is _ _ _ e)
 holds_type tests s k size list (there {a = a} {t = t} {y = y} {e = x} {kids = kids} p z h u) {v} {w} {n} e =
     let d = accepted_is v w n s (list / wide) y x kids (sym u ∙ e) in
-    subst (λ (z : ℕ). Fits z v) (own_type (declared_of s y.kind y.start y.end) d.named ∙ d.type_is) (typed_value s (declared_of s y.kind y.start y.end) x kids (tree_grown t a.count k h) d.faultless d.means)
+    subst (λ (z : ℕ). Fits z v) (own_type w (not_bare s y.kind y.start y.end w d.type_is)) (typed_value s w x kids (tree_grown t a.count k h) d.faultless d.means)

@@ -1,25 +1,26 @@
 -- From the table's rows to the answer: the steps on the table say what the definition says of the tree.
+use Rattle.std.specs.Prelude.{Option, Some, None, Err}
 use mathlib.Core.Path.{◌≡◌, refl, sym, ap, ◌∙◌}
 use mathlib.Core.List.{List, [], ◌∷◌, ◌++◌, append_assoc, append-nil}
-use mathlib.Core.Bool.{Bool, true, false, cond}
+use mathlib.Core.Bool.{true, cond}
 use Prim.Native.Nat.{ℕ, suc, ◌+◌, ◌*◌, ◌-◌, ◌≤◌}
 use native.Mathlib.Omega.{arith}
-use lib.Dec.{eqb, ltb}
+use lib.Dec.{ltb}
 use lib.ListN.{length, length-append, replicate}
-use borrow.Author.Tests.{eq-eqb, eqb-true}
+use borrow.Author.Tests.{eq-eqb}
 use Rattle.rows.specs.Rows.{width}
 use Rattle.grammar.specs.Rows.{Row}
-use Rattle.machine.specs.Machine.{Instr, exec, wide}
-use Rattle.numbers.proofs.Choices.{first, and}
-use Rattle.constants.specs.declared.Constant.{Constant}
-use Rattle.constants.specs.declared.Fault.{Fault}
+use Rattle.machine.specs.declared.Instruction.{Instruction}
+use Rattle.machine.specs.Machine.{exec, wide}
+use Rattle.numbers.proofs.Choices.{and}
+use Rattle.chars.specs.declared.Answer.{Answer}
 use Rattle.constants.specs.Trees.{Forest, none, tree, rows_of, trees, count, Grown, grown_tree, row_at, rows_from}
 use Rattle.constants.specs.Types.{declared_of}
 use Rattle.constants.specs.Meaning.{Outcome, is, stop, meaning}
-use Rattle.constants.specs.Lists.{instr_of, codes, flat_list, no_fault, fault_of, first_of}
-use Rattle.constants.specs.Answers.{refusal, is_constant, Numbered, ended, checked, constant_of, list_of}
-use Rattle.constants.specs.Steps.{backward, typed, backs_from, latest, fault_at, codes_at, ran_to, run_at, checked_at, typed_at, declared_at, sized_at, worked_at, Placed}
-use Rattle.constants.proofs.Compiled.{Formed, ran, backs, run_means, typed_codes, check_finds}
+use Rattle.constants.specs.Lists.{instr_of, codes, flat_list, fault_of, first_of}
+use Rattle.constants.specs.Answers.{Constant, refusal, is_constant, Numbered, ended, checked, constant_of, list_of, typed}
+use Rattle.constants.specs.Steps.{backward, typed as wanted, backs_from, latest, fault_at, codes_at, ran_to, run_at, checked_at, typed_at, declared_at, sized_at, worked_at, Placed}
+use Rattle.constants.proofs.Compiled.{Formed, ran, backs, run_means, typed_codes, check_starts}
 use Rattle.constants.proofs.Writing.{backward_backward}
 use Rattle.constants.proofs.Forests.{count_rows, backs_rows, backs_from_lem, rows_at, row_at_lem}
 use Rattle.constants.proofs.Faultless.{Fine, fine_tree, all_fine, formed}
@@ -28,15 +29,15 @@ use Rattle.constants.proofs.Faultless.{Fine, fine_tree, all_fine, formed}
 
 module _ (s : List ℕ) (t : List ℕ) (first n w : ℕ) {e : Row} {kids : Forest} (g : Grown (tree e kids none)) (at : backs_from t first n ≡ backs (tree e kids none)) where
   pub codes_at_lem : codes_at s t first n w ≡ codes (instr_of s) w (tree e kids none)
-  unfolding codes_at typed
+  unfolding codes_at wanted
   codes_at_lem =
-      ap (λ (z : List Row). backward (typed (instr_of s) w 0 z)) (at ∙ sym (append-nil (backs (tree e kids none))))
-      ∙ ap (λ (z : List Instr). backward z) (typed_codes (instr_of s) w g [] ∙ append-nil (backward (codes (instr_of s) w (tree e kids none))))
+      ap (λ (z : List Row). backward (wanted (instr_of s) w 0 z)) (at ∙ sym (append-nil (backs (tree e kids none))))
+      ∙ ap (λ (z : List Instruction). backward z) (typed_codes (instr_of s) w g [] ∙ append-nil (backward (codes (instr_of s) w (tree e kids none))))
       ∙ backward_backward (codes (instr_of s) w (tree e kids none))
 
-  pub fault_at_lem : fault_at s t first n w ≡ first_of no_fault (codes (fault_of s) w (tree e kids none))
+  pub fault_at_lem : fault_at s t first n w ≡ first_of (codes (fault_of s) w (tree e kids none))
   unfolding fault_at
-  fault_at_lem = ap (λ (z : List Row). latest no_fault (typed (fault_of s) w 0 z)) at ∙ check_finds (fault_of s) w g no_fault
+  fault_at_lem = ap (λ (z : List Row). latest None (wanted (fault_of s) w 0 z)) at ∙ check_starts (fault_of s) w g
 
 -- ---- the constant's rows in the table
 
@@ -52,9 +53,6 @@ module _ (U K Z : List Row) (y e : Row) where
 
   root_row : U ++ (y ∷ (K ++ (e ∷ Z))) ≡ (U ++ (y ∷ K)) ++ (e ∷ Z)
   root_row = sym (append_assoc U (y ∷ K) (e ∷ Z))
-
-  pub before_rows : U ++ (y ∷ (K ++ (e ∷ []))) ≡ (U ++ (y ∷ K)) ++ (e ∷ [])
-  before_rows = sym (append_assoc U (y ∷ K) (e ∷ []))
 
 grown_kids : {r : Row} {kids ts : Forest} → Grown (tree r kids ts) → Grown kids
 grown_kids (grown_tree c z g h) = g
@@ -126,8 +124,8 @@ module _ (t : List ℕ) (m k : ℕ) {y e : Row} {kids : Forest} (h : Numbered (r
   module _ (s : List ℕ) (room : ℕ) where
     -- the steps, from the fault on
     module _ (w : ℕ) where
-      no_faults : (f : Fault) → f ≡ first_of no_fault (codes (fault_of s) w (tree e kids none)) → f.number ≡ 0 → Formed e kids
-      no_faults f a b = go (all_fine s w (tree e kids none) (ap (λ (x : Fault). x.number) (sym a) ∙ b))
+      no_faults : first_of (codes (fault_of s) w (tree e kids none)) ≡ None → Formed e kids
+      no_faults a = go (all_fine s w (tree e kids none) a)
         where
           go : Fine s w (tree e kids none) → Formed e kids
           go (fine_tree x y z) = formed s w e kids (grown_children tree_grown) (grown_kids tree_grown) x y
@@ -139,37 +137,31 @@ module _ (t : List ℕ) (m k : ℕ) {y e : Row} {kids : Forest} (h : Numbered (r
 
       runs_to : Formed e kids → ran_to w e.size (exec (codes_at s t (place - e.size) e.size w) []) ≡ ended w e.size (meaning s w e kids)
       runs_to f =
-          ap (λ (xs : List Instr). ran_to w e.size (exec xs [])) (codes_at_lem s t (place - e.size) e.size w tree_grown backs_at) ∙ ap (ran_to w e.size) (run_means s f w) ∙ ends e.size (meaning s w e kids)
+          ap (λ (xs : List Instruction). ran_to w e.size (exec xs [])) (codes_at_lem s t (place - e.size) e.size w tree_grown backs_at) ∙ ap (ran_to w e.size) (run_means s f w) ∙ ends e.size (meaning s w e kids)
 
-      checks_to : (f : Fault) → f ≡ first_of no_fault (codes (fault_of s) w (tree e kids none)) → checked_at s room t (place - e.size) e.size w f ≡ checked s room w e kids f
+      checks_to : (f : Option Answer) → f ≡ first_of (codes (fault_of s) w (tree e kids none)) → checked_at s room t (place - e.size) e.size w f ≡ checked s room w e kids f
       unfolding checked_at checked run_at
-      checks_to f a = go (eqb f.number 0) refl
-        where
-          no_room : Constant
-          no_room = Constant.Refused (record { number = 10; start = 0; end = 0; count = e.size })
+      checks_to (Some a) q = refl
+      checks_to None q = ap (λ (c : Constant). cond (ltb room e.size) (Err (record { number = 10; start = 0; end = 0; count = e.size })) c) (runs_to (no_faults (sym q)))
 
-          go : (b : Bool) → eqb f.number 0 ≡ b
-              → cond b (cond (ltb room e.size) (Constant.Refused (record { number = 10; start = 0; end = 0; count = e.size })) (ran_to w e.size (exec (codes_at s t (place - e.size) e.size w) []))) (refusal f.number f.start f.end)
-              ≡ cond b (cond (ltb room e.size) (Constant.Refused (record { number = 10; start = 0; end = 0; count = e.size })) (ended w e.size (meaning s w e kids))) (refusal f.number f.start f.end)
-          go true q = ap (λ (c : Constant). cond (ltb room e.size) (Constant.Refused (record { number = 10; start = 0; end = 0; count = e.size })) c) (runs_to (no_faults f a (eqb-true f.number 0 q)))
-          go false q = refl
+    types_to : (d : Option ℕ) → typed_at s room t (place - e.size) e.size y d ≡ typed s room y e kids d
+    unfolding typed_at typed
+    types_to None = refl
+    types_to (Some w) =
+        ap (checked_at s room t (place - e.size) e.size w) (fault_at_lem s t (place - e.size) e.size w tree_grown backs_at) ∙ checks_to w (first_of (codes (fault_of s) w (tree e kids none))) refl
 
     -- what the steps say of the constant's row is what the definition says of its tree
     pub worked_means : worked_at s room t place ≡ constant_of s room y e kids
-    unfolding worked_at sized_at typed_at declared_at constant_of
+    unfolding worked_at sized_at declared_at constant_of
     worked_means =
         ap (λ (r : Row). sized_at s room t place r) expr_at
         ∙ ap (λ (r : Row). cond (ltb 1024 e.size) (refusal 15 e.start e.end) (typed_at s room t (place - e.size) e.size r (declared_of s r.kind r.start r.end))) type_at
-        ∙ ap (λ (c : Constant). cond (ltb 1024 e.size) (refusal 15 e.start e.end) (cond (eqb w 0) (refusal 15 y.start y.end) c))
-        (ap (checked_at s room t (place - e.size) e.size w) (fault_at_lem s t (place - e.size) e.size w tree_grown backs_at) ∙ checks_to w (first_of no_fault (codes (fault_of s) w (tree e kids none))) refl)
-      where
-        w : ℕ
-        w = declared_of s y.kind y.start y.end
+        ∙ ap (λ (c : Constant). cond (ltb 1024 e.size) (refusal 15 e.start e.end) c) (types_to (declared_of s y.kind y.start y.end))
 
     -- and its list
-    pub list_means : (size : ℕ) → flat_list (codes_at s t (place - e.size) e.size (declared_of s y.kind y.start y.end)) ++ replicate (size - wide * e.size) 0 ≡ list_of s size y e kids
+    pub list_means : (size w : ℕ) → flat_list (codes_at s t (place - e.size) e.size w) ++ replicate (size - wide * e.size) 0 ≡ list_of s size w e kids
     unfolding list_of
-    list_means size = ap (λ (xs : List Instr). flat_list xs ++ replicate (size - wide * e.size) 0) (codes_at_lem s t (place - e.size) e.size (declared_of s y.kind y.start y.end) tree_grown backs_at)
+    list_means size w = ap (λ (xs : List Instruction). flat_list xs ++ replicate (size - wide * e.size) 0) (codes_at_lem s t (place - e.size) e.size w tree_grown backs_at)
 
   -- ---- where it is found
 

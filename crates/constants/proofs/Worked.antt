@@ -1,8 +1,9 @@
 -- Worked constants: the sources of docs/DECISIONS.md, M1 to M10, each integer type and each operator, by computation. By `one_answer` no other answer is permitted.
+use Rattle.std.specs.Prelude.{Ok, Err}
 use mathlib.Core.Path.{◌≡◌, refl, sym}
 use mathlib.Core.List.{List, [], ◌∷◌}
 use mathlib.Core.Bool.{Bool, true, false, cond}
-use mathlib.Core.Option.{Option, none, some}
+use mathlib.Core.Option as maybe
 use Prim.Native.Nat.{ℕ, ◌/◌}
 use Prim.Native.String.{String}
 use native.Mathlib.Omega.{arith}
@@ -22,17 +23,16 @@ use Rattle.wholes.specs.Wholes.{lowest, standing, number, or_none, quotient_of, 
 use Rattle.machine.specs.declared.Value.{Value}
 use Rattle.machine.specs.Values.{op_of, integer_of, literal_value, negated_of, single_of, part_of, whole_of, order_of, float_of, join_of, wholes_of, numbers_of, floats_of, truths_of, double_of}
 use Rattle.machine.specs.Machine.{topped, double_on, single_on, step_of, after as goes_on, ended, exec, wide}
-use Rattle.constants.specs.declared.Constant.{Constant}
 use Rattle.constants.specs.Types.{compares, under, type_of, text_at, named_of, declared_of, number_for, bits_for, float_number, float_bits, fine, integer_fault, float_fault, operator_fault, fault_number}
 use Rattle.constants.specs.Meaning.{held_of}
-use Rattle.constants.specs.Lists.{instr_of, fault_of}
-use Rattle.constants.specs.Answers.{refusal, is_constant, Permitted}
-use Rattle.constants.specs.Steps.{backward, wanted_of, left_of, typed, backs_from, kept_of, latest, fault_at, codes_at, ran_to, run_at, checked_at, typed_at, declared_at, sized_at, worked_at, found_from, numbered_at}
+use Rattle.constants.specs.Lists.{instr_of, fault_of, first_of}
+use Rattle.constants.specs.Answers.{Constant, refusal, is_constant, Permitted}
+use Rattle.constants.specs.Steps.{backward, wanted_of, left_of, typed, backs_from, latest, fault_at, codes_at, ran_to, run_at, checked_at, typed_at, declared_at, sized_at, worked_at, found_from, numbered_at}
 use Rattle.constants.proofs.Answered.{answer_by}
 
 -- what a computation goes through
 unfoldable steps : Unit {0}
-unfolding of_bits round to_bits add sub mul div rem neg units odd size span climb of_fields nan_bits count_trailing_zeros bits_of digits_at before after from_first few row_for row_of width_of float_row alone_of lowest standing number or_none quotient_of remainder_of op_of integer_of literal_value negated_of single_of part_of whole_of order_of float_of join_of wholes_of numbers_of floats_of truths_of double_of topped double_on single_on step_of goes_on ended exec compares under type_of text_at named_of declared_of number_for bits_for float_number float_bits fine integer_fault float_fault operator_fault fault_number held_of instr_of fault_of is_constant backward wanted_of left_of typed backs_from kept_of latest fault_at codes_at ran_to run_at checked_at typed_at declared_at sized_at worked_at found_from numbered_at
+unfolding of_bits round to_bits add sub mul div rem neg units odd size span climb of_fields nan_bits count_trailing_zeros bits_of digits_at before after from_first few row_for row_of width_of float_row alone_of lowest standing number or_none quotient_of remainder_of op_of integer_of literal_value negated_of single_of part_of whole_of order_of float_of join_of wholes_of numbers_of floats_of truths_of double_of topped double_on single_on step_of goes_on ended exec compares under type_of text_at named_of declared_of number_for bits_for float_number float_bits fine integer_fault float_fault operator_fault fault_number held_of instr_of fault_of first_of is_constant backward wanted_of left_of typed backs_from latest fault_at codes_at ran_to run_at checked_at typed_at declared_at sized_at worked_at found_from numbered_at
 steps = tt
 
 -- a source, a constant's number, how many numbers are lent for the list; the constant
@@ -49,17 +49,17 @@ lent = 300
 abbrev fuel : ℕ
 fuel = 1000
 
-abbrev from : Case → Option Outcome → Option Constant
-from c none = none
-from c (some o) = cond (eqb o.answer.number 0) (some (numbered_at (bytes c.source) (c.list / wide) o.table (found_from o.table 0 o.answer.count c.number))) none
+abbrev from : Case → maybe.Option Outcome → maybe.Option Constant
+from c maybe.none = maybe.none
+from c (maybe.some o) = cond (eqb o.answer.number 0) (maybe.some (numbered_at (bytes c.source) (c.list / wide) o.table (found_from o.table 0 o.answer.count c.number))) maybe.none
 
-unfoldable computed : List Case → List (Option Constant)
+unfoldable computed : List Case → List (maybe.Option Constant)
 computed [] = []
 computed (c ∷ cs) = from c (outcome (bytes c.source) lent fuel false true) ∷ computed cs
 
-unfoldable stated : List Case → List (Option Constant)
+unfoldable stated : List Case → List (maybe.Option Constant)
 stated [] = []
-stated (c ∷ cs) = some c.constant ∷ stated cs
+stated (c ∷ cs) = maybe.some c.constant ∷ stated cs
 
 -- each has its constant
 abbrev pub Has : Case → Type 0
@@ -69,11 +69,11 @@ abbrev pub Each : List Case → Type 0
 Each [] = Unit {0}
 Each (c ∷ cs) = Has c × Each cs
 
-has : (c : Case) (o : Option Outcome) → outcome (bytes c.source) lent fuel false true ≡ o → from c o ≡ some c.constant → Has c
-has c none e q = let z : ◌≡◌ {A = ℕ} 0 1 = cc in absurd (omega arith)
-has c (some o) e q = go (eqb o.answer.number 0) refl q
+has : (c : Case) (o : maybe.Option Outcome) → outcome (bytes c.source) lent fuel false true ≡ o → from c o ≡ maybe.some c.constant → Has c
+has c maybe.none e q = let z : ◌≡◌ {A = ℕ} 0 1 = cc in absurd (omega arith)
+has c (maybe.some o) e q = go (eqb o.answer.number 0) refl q
   where
-    go : (b : Bool) → eqb o.answer.number 0 ≡ b → cond b (some (numbered_at (bytes c.source) (c.list / wide) o.table (found_from o.table 0 o.answer.count c.number))) none ≡ some c.constant → Has c
+    go : (b : Bool) → eqb o.answer.number 0 ≡ b → cond b (maybe.some (numbered_at (bytes c.source) (c.list / wide) o.table (found_from o.table 0 o.answer.count c.number))) maybe.none ≡ maybe.some c.constant → Has c
     go true z r =
         let k : numbered_at (bytes c.source) (c.list / wide) o.table (found_from o.table 0 o.answer.count c.number) ≡ c.constant = cc in
         answer_by false (bytes c.source) c.number lent c.list (outcome_means (bytes c.source) lent fuel false true e) (eqb-true o.answer.number 0 z) c.constant (sym k)
@@ -83,12 +83,12 @@ each_has : (cs : List Case) → computed cs ≡ stated cs → Each cs
 unfolding computed stated
 each_has [] e = tt
 each_has (c ∷ cs) e =
-    let a : from c (outcome (bytes c.source) lent fuel false true) ≡ some c.constant = cc in
+    let a : from c (outcome (bytes c.source) lent fuel false true) ≡ maybe.some c.constant = cc in
     let b : computed cs ≡ stated cs = cc in
     (has c (outcome (bytes c.source) lent fuel false true) refl a, each_has cs b)
 
 abbrev is : String → Value → ℕ → ℕ → Case
-is t v w n = record { source = t; number = 0; list = 60; constant = Constant.Is v w n }
+is t v w n = record { source = t; number = 0; list = 60; constant = Ok (record { value = v; ty = w; count = n }) }
 
 abbrev fails : String → ℕ → ℕ → ℕ → Case
 fails t n a e = record { source = t; number = 0; list = 60; constant = refusal n a e }
@@ -146,8 +146,8 @@ worked =
     is "const A: bool = 1 >= 1;" (Value.Truth true) 12 3 ∷
     is "const A: bool = 2 >= 1;" (Value.Truth true) 12 3 ∷
     -- M5: the list's room; M6: the number of a constant
-    record { source = "const A: u8 = 1 + 2;"; number = 0; list = 14; constant = Constant.Refused (record { number = 10; start = 0; end = 0; count = 3 }) } ∷
-    record { source = "import a; const A: u8 = 1; fn f() {} const B: u8 = 2;"; number = 1; list = 60; constant = Constant.Is (Value.Whole 2) 5 1 } ∷
+    record { source = "const A: u8 = 1 + 2;"; number = 0; list = 14; constant = Err (record { number = 10; start = 0; end = 0; count = 3 }) } ∷
+    record { source = "import a; const A: u8 = 1; fn f() {} const B: u8 = 2;"; number = 1; list = 60; constant = Ok (record { value = (Value.Whole 2); ty = 5; count = 1 }) } ∷
     record { source = "const A: u8 = 1;"; number = 1; list = 60; constant = refusal 15 0 0 } ∷
     -- M7: another declared type
     fails "const A: u8? = 1;" 15 9 12 ∷

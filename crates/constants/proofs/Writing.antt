@@ -1,4 +1,5 @@
 -- The loops over a table's rows: instructions written from the last row to the first, the last fault met, the row of a constant.
+use Rattle.std.specs.Prelude.{Option, Some, None}
 use mathlib.Core.Path.{◌≡◌, refl, sym, ap, ◌∙◌}
 use mathlib.Core.List.{List, [], ◌∷◌, ◌++◌, append_assoc, append-nil}
 use mathlib.Core.Bool.{Bool, true, false, cond}
@@ -10,16 +11,17 @@ use lib.ListN.{length, get_or, set, length-set}
 use lib.Seq.{get_or-set_same, get_or-set_other}
 use borrow.Author.Tests.{lt-ltb, ne_eqb}
 use Rattle.grammar.specs.Rows.{Row}
-use Rattle.machine.specs.Machine.{Instr, instr_at, instrs, wide}
+use Rattle.machine.specs.declared.Instruction.{Instruction}
+use Rattle.machine.specs.Machine.{instr_at, instrs, wide}
 use Rattle.numbers.proofs.Choices.{first, second}
-use Rattle.constants.specs.declared.Fault.{Fault}
-use Rattle.constants.specs.declared.Found.{Found}
+use Rattle.std.specs.Option.{option_or}
+use Rattle.chars.specs.declared.Answer.{Answer}
+use Rattle.constants.specs.declared.Row as code
 use Rattle.constants.specs.Trees.{row_at}
-use Rattle.constants.specs.Types.{compares, type_of}
-use Rattle.constants.specs.Meaning.{held}
-use Rattle.constants.specs.Lists.{instr_of, fault_of, no_fault}
+use Rattle.constants.specs.Types.{compares}
+use Rattle.constants.specs.Lists.{instr_of, fault_of}
 use Rattle.constants.specs.Answers.{is_constant}
-use Rattle.constants.specs.Steps.{backward, wanted_of, left_of, typed, backs_from, kept_of, latest, fault_at, shown_of, stored, codes_at, found_from}
+use Rattle.constants.specs.Steps.{backward, wanted_of, left_of, row_of, typed, backs_from, latest, fault_at, stored, codes_at, found_from}
 use Rattle.constants.proofs.Compiled.{backward_append}
 
 pub backward_backward : {A : Type 0} (xs : List A) → backward (backward xs) ≡ xs
@@ -55,13 +57,13 @@ module _ (l : List ℕ) (j kind ty value start end : ℕ) where
   beyonds m (suc k) h =
       (λ i. record {
         kind = beyond (m * wide) (omega (arith, h)) i;
-        type = beyond (m * wide + 1) (omega (arith, h)) i;
+        ty = beyond (m * wide + 1) (omega (arith, h)) i;
         value = beyond (m * wide + 2) (omega (arith, h)) i;
         start = beyond (m * wide + 3) (omega (arith, h)) i;
         end = beyond (m * wide + 4) (omega (arith, h)) i;
       } ∷ beyonds (suc m) k (omega (arith, h)) i)
 
-  written : j * wide + wide ≤ length l → instr_at (stored l j kind ty value start end) j ≡ record { kind = kind; type = ty; value = value; start = start; end = end }
+  written : j * wide + wide ≤ length l → instr_at (stored l j kind ty value start end) j ≡ record { kind = kind; ty = ty; value = value; start = start; end = end }
   unfolding stored
   written h =
       let a = set l (j * wide) kind in
@@ -83,7 +85,7 @@ module _ (l : List ℕ) (j kind ty value start end : ℕ) where
       let p3 : get_or (set d (j * wide + 4) end) (j * wide + 3) 0 ≡ start =
       get_or-set_other d (j * wide + 4) (j * wide + 3) end 0 (omega arith) ∙ get_or-set_same c (j * wide + 3) start 0 (omega (arith, h, C)) in
       let p4 : get_or (set d (j * wide + 4) end) (j * wide + 4) 0 ≡ end = get_or-set_same d (j * wide + 4) end 0 (omega (arith, h, D)) in
-      (λ i. record { kind = p0 i; type = p1 i; value = p2 i; start = p3 i; end = p4 i })
+      (λ i. record { kind = p0 i; ty = p1 i; value = p2 i; start = p3 i; end = p4 i })
 
 -- ---- the loop
 
@@ -94,6 +96,9 @@ typed_step f w zero r rs = refl
 typed_step f w (suc k) r rs =
     (λ i. f (second {t = eqb (suc k) 0} w {b = 0} {x = 0} (ne_eqb (suc k) 0 (λ e. omega (arith, e))) refl i) r
     ∷ typed f w (first {t = ltb 0 (suc k)} {a = suc k - 1} {x = k} (cond (compares r.kind r.detail) (r.size - 1) 0) (lt-ltb 0 (suc k) (omega arith)) (omega arith) i) rs)
+
+abbrev pub written_to : List ℕ → ℕ → Instruction → List ℕ
+written_to l j x = stored l j x.kind x.ty x.value x.start x.end
 
 pub record Back (src t : List ℕ) (first n w : ℕ) (l0 l : List ℕ) (k i : ℕ) : Type 0 where
   pub within : i ≤ n
@@ -116,65 +121,58 @@ backs_end src t first n w l0 l k (suc i) h b = absurd (omega (arith, h))
 
 pub back_end : (src t : List ℕ) (first n w : ℕ) (l0 l : List ℕ) (k i : ℕ) → i ≤ 0 → Back src t first n w l0 l k i → (length l ≡ length l0) × (instrs l 0 n ≡ codes_at src t first n w)
 unfolding codes_at
-back_end src t first n w l0 l k i h b = (b.long, sym (backward_backward (instrs l 0 n)) ∙ ap (λ (z : List Instr). backward z) (backs_end src t first n w l0 l k i h b))
-
-its_instr : (src : List ℕ) (w k ty value : ℕ) (r : Row) → ty ≡ type_of (wanted_of w k) → value ≡ shown_of r.kind (held src r) r.detail
-    → ◌≡◌ {A = Instr} (record { kind = r.kind; type = ty; value = value; start = r.start; end = r.end }) (instr_of src (wanted_of w k) r)
-unfolding instr_of shown_of
-its_instr src w k ty value r e f = λ i. record { kind = r.kind; type = e i; value = f i; start = r.start; end = r.end }
+back_end src t first n w l0 l k i h b = (b.long, sym (backward_backward (instrs l 0 n)) ∙ ap (λ (z : List Instruction). backward z) (backs_end src t first n w l0 l k i h b))
 
 module _ (src t : List ℕ) (first n w : ℕ) (l0 l : List ℕ) (k i j : ℕ) (ij : i ≡ suc j) (room : n * wide ≤ length l0) (b : Back src t first n w l0 l k i) where
   abbrev row : Row
   row = row_at t (first + j)
 
-  list_step : (ty value : ℕ) → ty ≡ type_of (wanted_of w k) → value ≡ shown_of row.kind (held src row) row.detail
-      → instrs (stored l j row.kind ty value row.start row.end) j (n - j) ≡ instr_of src (wanted_of w k) row ∷ instrs l i (n - i)
+  list_step : instrs (written_to l j (instr_of src (wanted_of w k) row)) j (n - j) ≡ instr_of src (wanted_of w k) row ∷ instrs l i (n - i)
   unfolding instrs
-  list_step ty value e f =
-      ap (λ (m : ℕ). instrs (stored l j row.kind ty value row.start row.end) j m) {x = n - j} {y = suc (n - i)} (omega (arith, ij, b.within))
-      ∙ (λ q. (written l j row.kind ty value row.start row.end (omega (arith, room, b.within, b.long, ij)) ∙ its_instr src w k ty value row e f) q
-      ∷ beyonds l j row.kind ty value row.start row.end (suc j) (n - i) (omega arith) q)
-      ∙ ap (λ (m : ℕ). instr_of src (wanted_of w k) row ∷ instrs l m (n - i)) (sym ij)
+  list_step =
+      let x = instr_of src (wanted_of w k) row in
+      ap (λ (m : ℕ). instrs (written_to l j x) j m) {x = n - j} {y = suc (n - i)} (omega (arith, ij, b.within))
+      ∙ (λ q. written l j x.kind x.ty x.value x.start x.end (omega (arith, room, b.within, b.long, ij)) q ∷ beyonds l j x.kind x.ty x.value x.start x.end (suc j) (n - i) (omega arith) q)
+      ∙ ap (λ (m : ℕ). x ∷ instrs l m (n - i)) (sym ij)
 
-  pub back_turn : (ty value left : ℕ) (l1 : List ℕ) → ty ≡ type_of (wanted_of w k) → value ≡ shown_of row.kind (held src row) row.detail
-      → left ≡ left_of k row.kind row.detail row.size → l1 ≡ stored l j row.kind ty value row.start row.end → Back src t first n w l0 l1 left j
+  pub back_turn : (r : code.Row) (x : Instruction) (wanted left : ℕ) (l1 : List ℕ) → row_of r ≡ row → wanted ≡ wanted_of w k → x ≡ instr_of src wanted (row_of r)
+      → left ≡ left_of k r.kind r.detail r.size → l1 ≡ written_to l j x → Back src t first n w l0 l1 left j
   unfolding backward backs_from
-  back_turn ty value left l1 e f g s = record {
+  back_turn r x wanted left l1 e u f g s = record {
     within = omega (arith, ij, b.within);
-    long = ap length s ∙ same_length l j row.kind ty value row.start row.end ∙ b.long;
+    long = ap length s ∙ same_length l j x.kind x.ty x.value x.start x.end ∙ b.long;
     same =
-        (λ q. backward (instrs (s q) j (n - j)) ++ typed (instr_of src) w (g q) (backs_from t first j))
-        ∙ ap (λ (z : List Instr). backward z ++ typed (instr_of src) w (left_of k row.kind row.detail row.size) (backs_from t first j)) (list_step ty value e f)
+        (λ q. backward (instrs ((s ∙ ap (written_to l j) (f ∙ (λ p. instr_of src (u p) (e p)))) q) j (n - j)) ++ typed (instr_of src) w ((g ∙ ap (λ (y : Row). left_of k y.kind y.detail y.size) e) q) (backs_from t first j))
+        ∙ ap (λ (z : List Instruction). backward z ++ typed (instr_of src) w (left_of k row.kind row.detail row.size) (backs_from t first j)) list_step
         ∙ append_assoc (backward (instrs l i (n - i))) (instr_of src (wanted_of w k) row ∷ []) (typed (instr_of src) w (left_of k row.kind row.detail row.size) (backs_from t first j))
-        ∙ ap (λ (z : List Instr). backward (instrs l i (n - i)) ++ z) (sym (typed_step (instr_of src) w k row (backs_from t first j)))
+        ∙ ap (λ (z : List Instruction). backward (instrs l i (n - i)) ++ z) (sym (typed_step (instr_of src) w k row (backs_from t first j)))
         ∙ ap (λ (m : ℕ). backward (instrs l i (n - i)) ++ typed (instr_of src) w k (backs_from t first m)) (sym ij)
         ∙ b.same;
   }
 
 -- ---- the check
 
-pub record Check (src t : List ℕ) (first n w : ℕ) (h : Fault) (k i : ℕ) : Type 0 where
+pub record Check (src t : List ℕ) (first n w : ℕ) (h : Option Answer) (k i : ℕ) : Type 0 where
   pub within : i ≤ n
   pub same : latest h (typed (fault_of src) w k (backs_from t first i)) ≡ fault_at src t first n w
 
-pub check_start : (src t : List ℕ) (first n w : ℕ) → Check src t first n w no_fault 0 n
+pub check_start : (src t : List ℕ) (first n w : ℕ) → Check src t first n w None 0 n
 unfolding fault_at
 check_start src t first n w = record { within = omega arith; same = refl }
 
-pub check_end : (src t : List ℕ) (first n w : ℕ) (h : Fault) (k i : ℕ) → i ≤ 0 → Check src t first n w h k i → h ≡ fault_at src t first n w
+pub check_end : (src t : List ℕ) (first n w : ℕ) (h : Option Answer) (k i : ℕ) → i ≤ 0 → Check src t first n w h k i → h ≡ fault_at src t first n w
 unfolding latest typed backs_from
 check_end src t first n w h k zero e b = b.same
 check_end src t first n w h k (suc i) e b = absurd (omega (arith, e))
 
-pub check_turn : (src t : List ℕ) (first n w : ℕ) (h h1 : Fault) (k i j number left v : ℕ) → i ≡ suc j → Check src t first n w h k i → v ≡ wanted_of w k
-    → number ≡ (fault_of src v (row_at t (first + j))).number → h1 ≡ kept_of h number (row_at t (first + j)).start (row_at t (first + j)).end
-    → left ≡ left_of k (row_at t (first + j)).kind (row_at t (first + j)).detail (row_at t (first + j)).size → Check src t first n w h1 left j
-unfolding latest backs_from fault_of
-check_turn src t first n w h h1 k i j number left v e b u m g f = record {
+pub check_turn : (src t : List ℕ) (first n w : ℕ) (h h1 f : Option Answer) (r : code.Row) (wanted k i j left : ℕ) → i ≡ suc j → Check src t first n w h k i → row_of r ≡ row_at t (first + j)
+    → wanted ≡ wanted_of w k → f ≡ fault_of src wanted (row_of r) → h1 ≡ option_or f h → left ≡ left_of k r.kind r.detail r.size → Check src t first n w h1 left j
+unfolding latest backs_from
+check_turn src t first n w h h1 f r wanted k i j left e b row u m g o = record {
   within = omega (arith, e, b.within);
   same =
-      (λ q. latest ((g ∙ ap (λ (x : ℕ). kept_of h x (row_at t (first + j)).start (row_at t (first + j)).end) (m ∙ ap (λ (x : ℕ). (fault_of src x (row_at t (first + j))).number) u)) q) (typed (fault_of src) w (f q) (backs_from t first j)))
-      ∙ ap (λ (z : List Fault). latest h z) (sym (typed_step (fault_of src) w k (row_at t (first + j)) (backs_from t first j)))
+      (λ q. latest ((g ∙ ap (λ (x : Option Answer). option_or x h) (m ∙ (λ p. fault_of src (u p) (row p)))) q) (typed (fault_of src) w ((o ∙ ap (λ (y : Row). left_of k y.kind y.detail y.size) row) q) (backs_from t first j)))
+      ∙ ap (λ (z : List (Option Answer)). latest h z) (sym (typed_step (fault_of src) w k (row_at t (first + j)) (backs_from t first j)))
       ∙ ap (λ (m : ℕ). latest h (typed (fault_of src) w k (backs_from t first m))) (sym e)
       ∙ b.same;
 }
@@ -185,11 +183,8 @@ pub record Finding (t : List ℕ) (count number left i : ℕ) : Type 0 where
   pub within : i ≤ count
   pub same : found_from t i (count - i) left ≡ found_from t 0 count number
 
-pub finding_start : (t : List ℕ) (count number : ℕ) → Finding t count number number 0
-finding_start t count number = record { within = omega arith; same = ap (λ (n : ℕ). found_from t 0 n number) {x = count - 0} {y = count} (omega arith) }
-
 module _ (t : List ℕ) (count number left i : ℕ) (b : Finding t count number left i) where
-  pub finding_end : count ≤ i → Found.None ≡ found_from t 0 count number
+  pub finding_end : count ≤ i → None ≡ found_from t 0 count number
   unfolding found_from
   finding_end h = ap (λ (n : ℕ). found_from t i n left) {x = 0} {y = count - i} (omega (arith, h)) ∙ b.same
 
@@ -197,7 +192,7 @@ module _ (t : List ℕ) (count number left i : ℕ) (b : Finding t count number 
     split : found_from t i (suc (count - (i + 1))) left ≡ found_from t 0 count number
     split = ap (λ (n : ℕ). found_from t i n left) {x = suc (count - (i + 1))} {y = count - i} (omega (arith, h)) ∙ b.same
 
-    pub finding_here : is ≡ true → left ≡ 0 → Found.At i ≡ found_from t 0 count number
+    pub finding_here : is ≡ true → left ≡ 0 → Some i ≡ found_from t 0 count number
     unfolding found_from
     finding_here f z = first (found_from t (suc i) (count - (i + 1)) 0) (sym e ∙ f) refl ∙ ap (found_from t i (suc (count - (i + 1)))) (sym z) ∙ split
 
@@ -216,5 +211,5 @@ module _ (t : List ℕ) (count number left i : ℕ) (b : Finding t count number 
     finding_past f = record { within = omega (arith, h); same = go left split }
       where
         go : (k : ℕ) → found_from t i (suc (count - (i + 1))) k ≡ found_from t 0 count number → found_from t (i + 1) (count - (i + 1)) k ≡ found_from t 0 count number
-        go zero g = ap (λ (j : ℕ). found_from t j (count - (i + 1)) 0) (add-one i) ∙ second (Found.At i) (sym e ∙ f) refl ∙ g
+        go zero g = ap (λ (j : ℕ). found_from t j (count - (i + 1)) 0) (add-one i) ∙ second (Some i) (sym e ∙ f) refl ∙ g
         go (suc k) g = ap (λ (j : ℕ). found_from t j (count - (i + 1)) (suc k)) (add-one i) ∙ second (found_from t (suc i) (count - (i + 1)) k) (sym e ∙ f) refl ∙ g

@@ -1,14 +1,14 @@
 -- C-18: "the meaning of the tree", with whole numbers, the kit's IEEE values and truth values (machine/specs/Values.antt).
-use Rattle.std.specs.Prelude.{List, cond, ℕ, eqb}
+use Rattle.std.specs.Prelude.{List, cond, ℕ, eqb, Option, Some, None}
 use Rattle.rows.specs.Kinds as kinds
 use Rattle.grammar.specs.Rows.{Row}
 use Rattle.machine.specs.declared.Value.{Value}
-use Rattle.machine.specs.declared.Step.{Step}
 use Rattle.machine.specs.Values.{literal_value, single_of, double_of}
 use Rattle.constants.specs.Trees.{Forest, none, tree}
 use Rattle.constants.specs.Types.{under, type_of, float_bits}
 
 -- A value, or "integer divisor zero, at the row of the first such step".
+-- kept: no Result with the machine's Stop, which may be Broken as no tree's meaning is; with a pair of numbers it would be no plainer.
 pub data Outcome : Type 0 where
   is : Value → Outcome
   stop : ℕ → ℕ → Outcome
@@ -21,9 +21,9 @@ held_of s kind start end value = let b : ℕ = float_bits s start end in cond (e
 abbrev pub held : List ℕ → Row → ℕ
 held s r = held_of s r.kind r.start r.end r.value
 
-unfoldable pub stepped : Row → Step → Outcome
-stepped r (Step.To v) = is v
-stepped r Step.Zero = stop r.start r.end
+unfoldable pub stepped : Row → Option Value → Outcome
+stepped r (Some v) = is v
+stepped r None = stop r.start r.end
 
 unfoldable pub of_one : ℕ → Row → Outcome → Outcome
 of_one w r (is a) = is (single_of r.kind (type_of w) a)

@@ -1,4 +1,5 @@
 -- Rows that are stored in a lent table and zeros behind them: what document 01 says stands there.
+use Rattle.std.specs.Prelude.{Ok, Err}
 use mathlib.Core.Path.{◌≡◌, refl, sym, ap, subst, ◌∙◌}
 use mathlib.Core.List.{List, [], ◌∷◌, ◌++◌, append_assoc}
 use mathlib.Core.Bool.{Bool, true, false, cond}
@@ -10,7 +11,6 @@ use native.Mathlib.Omega.{arith}
 use borrow.Author.Tests.{le-leb, lt-leb, ne_eqb}
 use Rattle.chars.specs.declared.Answer.{Answer}
 use Rattle.tokens.specs.declared.Refusal.{Refusal}
-use Rattle.tokens.specs.declared.Whole.TheVariants.{Fine, Refused as Bad}
 use Rattle.tokens.specs.Tokens.{whole_of, refusal, counted}
 use Rattle.rows.specs.Rows.{width, written, noted, put_row, zeroed}
 use Rattle.grammar.specs.Rows.{numbers, flat}
@@ -21,8 +21,7 @@ use Rattle.answers.specs.Entries.{room, table_for, Permitted, read}
 use Rattle.answers.specs.Entries as answers
 use Rattle.parser.specs.declared.Node.{Node}
 use Rattle.parser.specs.declared.Here.{Here}
-use Rattle.parser.specs.declared.Read.{Read}
-use Rattle.parser.specs.declared.Read.TheVariants.{Done, Refused}
+use Rattle.parser.specs.Results.{Read}
 use Rattle.parser.specs.Going.{as_row, store}
 use Rattle.parser.proofs.Tables.{store_length}
 use Rattle.promises.specs.Promises.{FinishedIs, Finished}
@@ -139,33 +138,33 @@ module _ (tests tree : Bool) (s t : List ℕ) where
   permitted_as {a} {b} {u} {v} e q p = subst (λ (x : Answer). Permitted tests tree s (length t) x u) (sym e) (subst (λ (x : List ℕ). Permitted tests tree s (length t) b x) (sym q) p)
 
   -- 1, 2, 3
-  pub permits_early : {r : Refusal} {a : Answer} {u : List ℕ} → whole_of s ≡ Bad r → (a ≡ refusal r) × (u ≡ zeroed t 0) → Permitted tests tree s (length t) a u
+  pub permits_early : {r : Refusal} {a : Answer} {u : List ℕ} → whole_of s ≡ Err r → (a ≡ refusal r) × (u ≡ zeroed t 0) → Permitted tests tree s (length t) a u
   permits_early e p = permitted_as p.0 (p.1 ∙ zeroed_all t) (answers.early e)
 
   -- what the grammar says: the rows' part of the table was handed on
-  pub permits_read : {r : Read} {t' : List ℕ} {a : Answer} {u : List ℕ} → whole_of s ≡ Fine → Finished tests tree s (rows_part t) r t' → (a ≡ answered (length s) (length (t' ++ left_over t)) r) × (u ≡ left_by (t' ++ left_over t) r) → Permitted tests tree s (length t) a u
+  pub permits_read : {r : Read} {t' : List ℕ} {a : Answer} {u : List ℕ} → whole_of s ≡ (Ok tt) → Finished tests tree s (rows_part t) r t' → (a ≡ answered (length s) (length (t' ++ left_over t)) r) × (u ≡ left_by (t' ++ left_over t) r) → Permitted tests tree s (length t) a u
   permits_read {r} {t'} {a} {u} e f p = go r (f.short (fine_short s e)) p.0 p.1
     where
       go : (r : Read) → FinishedIs tests tree s (rows_part t) r t' → a ≡ answered (length s) (length (t' ++ left_over t)) r → u ≡ left_by (t' ++ left_over t) r → Permitted tests tree s (length t) a u
-      go (Done m h) (rs, x, n, q) y z =
+      go (Ok (m, h)) (rs, x, n, q) y z =
           let size : length (t' ++ left_over t) ≡ length t = over_length t t' (ap length q ∙ store_length (rows_part t) 0 rs) in
           permitted_as (y ∙ ap (λ (k : ℕ). counted (length s) k (room (length (t' ++ left_over t)))) n ∙ ap (λ (k : ℕ). counted (length s) (length rs) (room k)) size) (z ∙ ap (kept_rows (t' ++ left_over t)) n ∙ ap (λ (l : List ℕ). kept_rows (l ++ left_over t) (length rs)) q ∙ kept_is t rs) (read e x)
-      go (Refused w) (x, k) y z = permitted_as y (z ∙ zeroed_all (t' ++ left_over t) ∙ ap (λ (n : ℕ). replicate n 0) (over_length t t' k)) (read e x)
+      go (Err w) (x, k) y z = permitted_as y (z ∙ zeroed_all (t' ++ left_over t) ∙ ap (λ (n : ℕ). replicate n 0) (over_length t t' k)) (read e x)
 
 -- the rows put into any table
 module _ (tests : Bool) (s t : List ℕ) where
   puts_as : {a b : Answer} {u v : List ℕ} → a ≡ b → u ≡ v → Puts tests s t b v → Puts tests s t a u
   puts_as {a} {b} {u} {v} e q p = subst (λ (x : Answer). Puts tests s t x u) (sym e) (subst (λ (x : List ℕ). Puts tests s t b x) (sym q) p)
 
-  pub puts_early : {r : Refusal} {a : Answer} {u : List ℕ} → whole_of s ≡ Bad r → (a ≡ refusal r) × (u ≡ zeroed t 0) → Puts tests s t a u
+  pub puts_early : {r : Refusal} {a : Answer} {u : List ℕ} → whole_of s ≡ Err r → (a ≡ refusal r) × (u ≡ zeroed t 0) → Puts tests s t a u
   puts_early e p = puts_as p.0 (p.1 ∙ zeroed_all t) (early e)
 
-  pub puts_read : {r : Read} {t' : List ℕ} {a : Answer} {u : List ℕ} → whole_of s ≡ Fine → Finished tests true s t r t' → (a ≡ stored_answer (length s) r) × (u ≡ stored_rows t' r) → Puts tests s t a u
+  pub puts_read : {r : Read} {t' : List ℕ} {a : Answer} {u : List ℕ} → whole_of s ≡ (Ok tt) → Finished tests true s t r t' → (a ≡ stored_answer (length s) r) × (u ≡ stored_rows t' r) → Puts tests s t a u
   puts_read {r} {t'} {a} {u} e f p = go r (f.short (fine_short s e)) p.0 p.1
     where
       go : (r : Read) → FinishedIs tests true s t r t' → a ≡ stored_answer (length s) r → u ≡ stored_rows t' r → Puts tests s t a u
-      go (Done m h) (rs, x, n, q) y z = puts_as (y ∙ ap (λ (k : ℕ). record { number = 0; start = 0; end = length s; count = k }) n) (z ∙ q) (puts e x)
-      go (Refused w) (x, k) y z = puts_as y (z ∙ zeroed_all t' ∙ ap (λ (n : ℕ). replicate n 0) k) (refuses e x)
+      go (Ok (m, h)) (rs, x, n, q) y z = puts_as (y ∙ ap (λ (k : ℕ). record { number = 0; start = 0; end = length s; count = k }) n) (z ∙ q) (puts e x)
+      go (Err w) (x, k) y z = puts_as y (z ∙ zeroed_all t' ∙ ap (λ (n : ℕ). replicate n 0) k) (refuses e x)
 
 -- what the functions on the way say
 module _ (len n : ℕ) (t : List ℕ) {u : List ℕ} where
@@ -176,14 +175,14 @@ module _ (len n : ℕ) (t : List ℕ) {u : List ℕ} where
   counted_over h e = rw (lt-leb n (length t / width) h) (refl, e)
 
 module _ (len : ℕ) (t : List ℕ) {r : Read} {a : Answer} {u : List ℕ} where
-  pub answered_done : {m : Node} {h : Here} → r ≡ Done m h → (a ≡ counted len h.rows (room (length t))) × (u ≡ kept_rows t h.rows) → (a ≡ answered len (length t) r) × (u ≡ left_by t r)
+  pub answered_done : {m : Node} {h : Here} → r ≡ Ok (m, h) → (a ≡ counted len h.rows (room (length t))) × (u ≡ kept_rows t h.rows) → (a ≡ answered len (length t) r) × (u ≡ left_by t r)
   answered_done e p = (p.0 ∙ ap (answered len (length t)) (sym e), p.1 ∙ ap (left_by t) (sym e))
 
-  pub answered_refused : {x : Refusal} → r ≡ Refused x → (a ≡ refusal x) × (u ≡ zeroed t 0) → (a ≡ answered len (length t) r) × (u ≡ left_by t r)
+  pub answered_refused : {x : Refusal} → r ≡ Err x → (a ≡ refusal x) × (u ≡ zeroed t 0) → (a ≡ answered len (length t) r) × (u ≡ left_by t r)
   answered_refused e p = (p.0 ∙ ap (answered len (length t)) (sym e), p.1 ∙ ap (left_by t) (sym e))
 
-  pub stored_done : {m : Node} {h : Here} → r ≡ Done m h → (a ≡ record { number = 0; start = 0; end = len; count = h.rows }) × (u ≡ t) → (a ≡ stored_answer len r) × (u ≡ stored_rows t r)
+  pub stored_done : {m : Node} {h : Here} → r ≡ Ok (m, h) → (a ≡ record { number = 0; start = 0; end = len; count = h.rows }) × (u ≡ t) → (a ≡ stored_answer len r) × (u ≡ stored_rows t r)
   stored_done e p = (p.0 ∙ ap (stored_answer len) (sym e), p.1 ∙ ap (stored_rows t) (sym e))
 
-  pub stored_refused : {x : Refusal} → r ≡ Refused x → (a ≡ refusal x) × (u ≡ zeroed t 0) → (a ≡ stored_answer len r) × (u ≡ stored_rows t r)
+  pub stored_refused : {x : Refusal} → r ≡ Err x → (a ≡ refusal x) × (u ≡ zeroed t 0) → (a ≡ stored_answer len r) × (u ≡ stored_rows t r)
   stored_refused e p = (p.0 ∙ ap (stored_answer len) (sym e), p.1 ∙ ap (stored_rows t) (sym e))

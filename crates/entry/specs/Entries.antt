@@ -1,11 +1,10 @@
 -- What the entry points answer.
-use Rattle.std.specs.Prelude.{Bool, ◌&&◌, cond, ℕ, ◌*◌, List, [], length, eqb, leb}
+use Rattle.std.specs.Prelude.{Ok, Err, Bool, ◌&&◌, cond, ℕ, ◌*◌, List, [], length, eqb, leb}
 use Rattle.std.proofs.Math.Seq.{slice}
 use Rattle.chars.specs.declared.Answer.{Answer}
 use Rattle.tokens.specs.Tokens.{refusal, counted}
 use Rattle.rows.specs.Rows.{width, zeroed}
-use Rattle.parser.specs.declared.Read.{Read}
-use Rattle.parser.specs.declared.Read.TheVariants.{Done, Refused}
+use Rattle.parser.specs.Results.{Read}
 use Rattle.answers.specs.Entries.{room}
 
 -- "zeros fill the rest" behind so many rows, where there is room for them; else zeros throughout
@@ -14,21 +13,21 @@ kept_rows t n = zeroed t (cond (leb n (room (length t))) (n * width) 0)
 
 -- the answer to a source of so many bytes that was read so, and what is left in a table of so many numbers
 abbrev pub answered : ℕ → ℕ → Read → Answer
-answered len size (Done m h) = counted len h.rows (room size)
-answered len size (Refused r) = refusal r
+answered len size (Ok (m, h)) = counted len h.rows (room size)
+answered len size (Err r) = refusal r
 
 abbrev pub left_by : List ℕ → Read → List ℕ
-left_by t (Done m h) = kept_rows t h.rows
-left_by t (Refused r) = zeroed t 0
+left_by t (Ok (m, h)) = kept_rows t h.rows
+left_by t (Err r) = zeroed t 0
 
 -- the same where the rows are left as they were put, in a table of any size
 abbrev pub stored_answer : ℕ → Read → Answer
-stored_answer len (Done m h) = record { number = 0; start = 0; end = len; count = h.rows }
-stored_answer len (Refused r) = refusal r
+stored_answer len (Ok (m, h)) = record { number = 0; start = 0; end = len; count = h.rows }
+stored_answer len (Err r) = refusal r
 
 abbrev pub stored_rows : List ℕ → Read → List ℕ
-stored_rows t (Done m h) = t
-stored_rows t (Refused r) = zeroed t 0
+stored_rows t (Ok (m, h)) = t
+stored_rows t (Err r) = zeroed t 0
 
 -- "a row of kind 1" whose span fits
 unfoldable pub name_fits : List ℕ → ℕ → ℕ → ℕ → Bool

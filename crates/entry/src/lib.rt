@@ -51,8 +51,8 @@ pub fn answer(table: &mut [u64], size: usize, r: Read) -> Answer
     ensures { (result ≡ answered size (length table.old) r) × (table.new ≡ left_by table.old r) }
 {
     match r {
-        Read::Done(_, here) => counted(table, size, here.rows),
-        Read::Refused(why) => refused(table, why),
+        Ok((_, here)) => counted(table, size, here.rows),
+        Err(why) => refused(table, why),
     }
 }
 
@@ -61,13 +61,13 @@ pub fn answer_put(table: &mut [u64], size: usize, r: Read) -> Answer
     ensures { (result ≡ stored_answer size r) × (table.new ≡ stored_rows table.old r) }
 {
     match r {
-        Read::Done(_, here) => Answer {
+        Ok((_, here)) => Answer {
             number: refusal::NONE,
             start: 0,
             end: size,
             count: here.rows,
         },
-        Read::Refused(why) => refused(table, why),
+        Err(why) => refused(table, why),
     }
 }
 

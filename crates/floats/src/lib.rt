@@ -12,39 +12,41 @@ pub const NINETEEN_NINES: u64 = 9999999999999999999;
 
 pub const MOST_PLACES: usize = 19;
 
-#[derive(Clone, Copy)]
+#[derive(Debug, Clone, Copy, PartialEq, Eq)]
 pub enum Width {
     F32,
     F64,
 }
 
-// What a quotient of 64 binary digits counts to a float's last digit.
-fn unit(w: Width) -> u64
-    ensures { result ≡ unit_of w }
-{
-    match w {
-        Width::F32 => 1099511627776,
-        Width::F64 => 2048,
+impl Width {
+    // What a quotient of 64 binary digits counts to a float's last digit.
+    fn unit(self) -> u64
+        ensures { result ≡ unit_of self }
+    {
+        match self {
+            Width::F32 => 1099511627776,
+            Width::F64 => 2048,
+        }
     }
-}
 
-// The weight of a float's leading digit, and of its exponent's field.
-fn lead(w: Width) -> u64
-    ensures { result ≡ lead_of w }
-{
-    match w {
-        Width::F32 => 8388608,
-        Width::F64 => 4503599627370496,
+    // The weight of a float's leading digit, and of its exponent's field.
+    fn lead(self) -> u64
+        ensures { result ≡ lead_of self }
+    {
+        match self {
+            Width::F32 => 8388608,
+            Width::F64 => 4503599627370496,
+        }
     }
-}
 
-// The exponent's field, less one, of a number from 2 ^ 63 on and below 2 ^ 64.
-fn last(w: Width) -> u64
-    ensures { result ≡ last_of w }
-{
-    match w {
-        Width::F32 => 189,
-        Width::F64 => 1085,
+    // The exponent's field, less one, of a number from 2 ^ 63 on and below 2 ^ 64.
+    fn last(self) -> u64
+        ensures { result ≡ last_of self }
+    {
+        match self {
+            Width::F32 => 189,
+            Width::F64 => 1085,
+        }
     }
 }
 
@@ -61,8 +63,7 @@ fn extend(q: u64, r: u64, d: u64, steps: u32) -> Division
 {
     let mut quotient = q;
     let mut rest = r;
-    let mut i: u32 = 0;
-    while i < steps {
+    for _ in 0..steps {
         let gap = d - rest;
         if gap <= rest {
             quotient = quotient * 2 + 1;
@@ -71,7 +72,6 @@ fn extend(q: u64, r: u64, d: u64, steps: u32) -> Division
             quotient = quotient * 2;
             rest = rest + rest;
         }
-        i += 1;
     }
     Division { quotient, rest }
 }
@@ -88,7 +88,7 @@ fn normal(q: u64, r: u64, d: u64) -> Binary
     requires { (r < d) × (0 < q) }
     ensures { (Scaled (q * d + r) d result.quotient result.rest result.doubled) × (result.doubled ≤ 63) }
 {
-    let z = u64::leading_zeros(q);
+    let z = q.leading_zeros();
     let s = extend(q, r, d, z);
     Binary {
         quotient: s.quotient,
@@ -120,7 +120,7 @@ fn scaled(n: u64, d: u64) -> Binary
 fn rounded(q: u64, r: u64, w: Width) -> u64
     ensures { (d : ℕ) → r < d → result ≡ closest (q * d + r) (d * unit_of w) }
 {
-    let u = unit(w);
+    let u = w.unit();
     let m = q / u;
     let part = q % u;
     let half = u / 2;
@@ -146,42 +146,22 @@ fn nearest(n: u64, d: u64, w: Width) -> u64
     }
     let s = scaled(n, d);
     let m = rounded(s.quotient, s.rest, w);
-    (last(w) - s.doubled) * lead(w) + m
+    (w.last() - s.doubled) * w.lead() + m
 }
 
-// The bits of a decimal, or that it has too many digits.
-#[derive(Clone, Copy)]
-pub enum Answer {
-    Bits(u64),
-    Long,
-}
-
-fn power(k: usize) -> u64
-    requires { k ≤ 19 }
-    ensures { result ≡ 10 ^ k }
-{
-    let mut p: u64 = 1;
-    let mut i: usize = 0;
-    while i < k {
-        p = p * 10;
-        i += 1;
-    }
-    p
-}
-
-// The number that digits write before and behind the point, of which so many behind it.
-pub fn decimal(whole: u64, part: u64, places: usize, w: Width) -> Answer
+// The bits of the number that digits write before and behind the point, of which so many behind it; none for too many digits.
+pub fn decimal(whole: u64, part: u64, places: usize, w: Width) -> Option<u64>
     ensures { result ≡ decimal_of (format_of w) whole part places }
 {
     if MOST_PLACES < places {
-        return Answer::Long;
+        return None;
     }
-    let d = power(places);
+    let d = 10u64.pow(places as u32);
     if NINETEEN_NINES < part {
-        return Answer::Long;
+        return None;
     }
     if (NINETEEN_NINES - part) / d < whole {
-        return Answer::Long;
+        return None;
     }
-    Answer::Bits(nearest(whole * d + part, d, w))
+    Some(nearest(whole * d + part, d, w))
 }

@@ -1,4 +1,5 @@
 -- A range is dropped: what was kept before it stays kept in the blanked text, and what is kept from behind it on is kept from before it on.
+use Rattle.std.specs.Prelude.{Some, None, Ok, Err}
 use mathlib.Core.Path.{◌≡◌, refl, sym, ap, subst, ◌∙◌}
 use mathlib.Core.List.{List, [], ◌∷◌}
 use mathlib.Core.Bool.{Bool, true, false}
@@ -10,13 +11,13 @@ use lib.ListN.{length}
 use Rattle.chars.specs.declared.Class.TheVariants.{Blank}
 use Rattle.chars.specs.Chars.{byte_at, is_class}
 use Rattle.tokens.specs.declared.Refusal.{Refusal}
-use Rattle.tokens.specs.declared.Step.{Step}
-use Rattle.tokens.specs.declared.Step.TheVariants.{Taken, Refused}
+use Rattle.tokens.specs.Results.{Step}
 use Rattle.tokens.specs.Blanks.{skip_all}
 use Rattle.tokens.specs.Tokens.{step_at}
 use Rattle.tokens.proofs.Steps.{taken_good}
+use Rattle.texts.specs.Results.{Scanned}
 use Rattle.texts.specs.declared.Part.{Part}
-use Rattle.texts.specs.declared.Part.TheVariants.{Before, Ends as Last, None}
+use Rattle.texts.specs.declared.Part.TheVariants.{Before, Ends as Last}
 use Rattle.texts.specs.Parts.{part_at}
 use Rattle.texts.proofs.Parts.{Parted, parted_before, parted_ends, parted_none, part_lies}
 use Rattle.grammar.specs.Words.{f_quote, text_then_hole}
@@ -51,17 +52,17 @@ look_in s x i j e = by (step_at s i) (step_goes s i) e
     after false false r h z = let v : ◌≡◌ {A = ℕ} 0 1 = cc in absurd (omega arith)
 
     by : (k : Step) → Steps s i k → look_of s k ≡ found x j → j ≤ length s
-    by (Taken w p n) (steps_token h m l v) z = let u : n.at ≡ j = cc in omega arith
-    by (Refused r) steps_over z = let v : ◌≡◌ {A = ℕ} 0 1 = cc in absurd (omega arith)
-    by (Refused r) (steps_quote c l m) z = after (eqb r.number 11) (eqb r.number 5) r (λ t. m) z
-    by (Refused r) (steps_wrong c) z = after (eqb r.number 11) (eqb r.number 5) r (λ t. let v : ◌≡◌ {A = ℕ} 4 5 = sym c ∙ eqb→eq r.number 5 t in absurd (omega (arith, v))) z
+    by (Ok (w, p, n)) (steps_token h m l v) z = let u : n.at ≡ j = cc in omega arith
+    by (Err r) steps_over z = let v : ◌≡◌ {A = ℕ} 0 1 = cc in absurd (omega arith)
+    by (Err r) (steps_quote c l m) z = after (eqb r.number 11) (eqb r.number 5) r (λ t. m) z
+    by (Err r) (steps_wrong c) z = after (eqb r.number 11) (eqb r.number 5) r (λ t. let v : ◌≡◌ {A = ℕ} 4 5 = sym c ∙ eqb→eq r.number 5 t in absurd (omega (arith, v))) z
 
 pub piece_in : (s : List ℕ) (x : Token) (i j : ℕ) → (source s).piece i ≡ found x j → j ≤ length s
 piece_in s x i j e = by (part_at s i) (part_lies s i) e
   where
-    by : (k : Part) → Parted i (length s) k → piece_of s i k ≡ found x j → j ≤ length s
-    by (Before b) (parted_before h m) z = let v : b ≡ j = cc in omega arith
-    by (Last b) (parted_ends h m) z = let v : b + 1 ≡ j = cc in omega arith
+    by : (k : Scanned) → Parted i (length s) k → piece_of s i k ≡ found x j → j ≤ length s
+    by (Some (Before b)) (parted_before h m) z = let v : b ≡ j = cc in omega arith
+    by (Some (Last b)) (parted_ends h m) z = let v : b + 1 ≡ j = cc in omega arith
     by None parted_none z = let v : ◌≡◌ {A = ℕ} 0 1 = cc in absurd (omega arith)
 
 -- the byte of a `}` or `;`
@@ -80,14 +81,14 @@ fenced s x i m e c = by (step_at s i) refl e
     after false false r z c = let v : ◌≡◌ {A = ℕ} 0 1 = cc in omega arith
 
     by : (k : Step) → step_at s i ≡ k → look_of s k ≡ found x m → Fenced s m
-    by (Taken w p n) f z =
+    by (Ok (w, p, n)) f z =
         let v : w ≡ x.word = cc in
         let u : n.at ≡ m = cc in
         let g = sign_token s (skip_all s i) (subst (λ (y : ℕ). T (one_of y closers)) (sym v) c) (as_token s i f (not_taken (length s))) in
         let b = g.behind in
         let l = (taken_good s i f).2 in
         record { place = skip_all s i; behind = omega arith; inside = omega arith; fence = g.fence }
-    by (Refused r) f z = absurd (after (eqb r.number 11) (eqb r.number 5) r z c)
+    by (Err r) f z = absurd (after (eqb r.number 11) (eqb r.number 5) r z c)
 
 module _ (tests : Bool) where
   -- a declaration ends with its sign

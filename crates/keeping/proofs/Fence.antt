@@ -1,5 +1,6 @@
 -- Two sources of one length that agree up to a `}` or `;` and at it: a token that ends before it, and that sign itself,
 -- are seen alike in both.
+use Rattle.std.specs.Prelude.{Some, None, Ok}
 use mathlib.Core.Path.{◌≡◌, refl, sym, ap, ◌∙◌}
 use mathlib.Core.Logic.{◌⊎◌, inl, inr}
 use mathlib.Core.List.{List, ◌∷◌}
@@ -18,11 +19,10 @@ use Rattle.chars.specs.Chars.{byte_at, is_class, is_digit}
 use Rattle.chars.specs.Runs.{past_span, past_run, behind_last}
 use Rattle.chars.specs.Texts as texts
 use Rattle.chars.proofs.Runs.{byte_in, byte_out, outside, past_ge, past_more, past_done, span_ge, span_more, span_done, along, last_le}
-use Rattle.tokens.specs.declared.Fit.{Fit}
-use Rattle.tokens.specs.declared.Fit.TheVariants.{To, No}
+use Rattle.tokens.proofs.Results.{fit_end, taken_start, taken_end}
+use Rattle.tokens.specs.Results.{Fit}
 use Rattle.tokens.specs.declared.Cursor.{Cursor}
-use Rattle.tokens.specs.declared.Step.{Step}
-use Rattle.tokens.specs.declared.Step.TheVariants.{Taken}
+use Rattle.tokens.specs.Results.{Step}
 use Rattle.tokens.specs.Words.{two_signs, one_signs, word_in, two_sign, one_sign, name_word}
 use Rattle.tokens.specs.Rules.{when_fit, sign_fit, then_fit, pair_at, colons_at, fraction_at, dotted_at, three_at, decimal_group, or_to, ipv6_at, period_at, ipv4_at, two_at, one_at, as_at, hex_at, number_at, goes_on, escapes, quote_at, is_name_start, name_at, taken, refused, or_else, token_at}
 
@@ -32,7 +32,7 @@ and_same false a' b b' e f = ap (λ (x : Bool). x && b') e
 
 fit_same : (x x' : Bool) (e e' w : ℕ) → x ≡ x' → (x ≡ true → e ≡ e') → when_fit x e w ≡ when_fit x' e' w
 unfolding when_fit
-fit_same true x' e e' w p q = ap (λ (k : ℕ). To k w) (q refl) ∙ ap (λ (y : Bool). when_fit y e' w) p
+fit_same true x' e e' w p q = ap (λ (k : ℕ). Some (k, w)) (q refl) ∙ ap (λ (y : Bool). when_fit y e' w) p
 fit_same false x' e e' w p q = ap (λ (y : Bool). when_fit y e' w) p
 
 left_so : (a b : Bool) → (a && b) ≡ true → a ≡ true
@@ -135,15 +135,15 @@ module _ (keep next : Bool → ℕ → Bool) (none : (c : Bool) → keep c 256 �
   span_fails : (i : ℕ) (c : Bool) → Fails (past_span keep next c s i)
   span_fails i c = let g = span_ge keep next c s i in let z : i + (past_span keep next c s i - i) ≡ past_span keep next c s i = omega arith in let w = stops (past_span keep next c s i - i) i c (sym z) in (w.0, ap (λ (j : ℕ). keep w.0 (byte_at s j)) (sym z) ∙ w.1)
 
-fit_ends : (b : Bool) (c w : ℕ) {e v : ℕ} → when_fit b c w ≡ To e v → (b ≡ true) × (c ≡ e)
+fit_ends : (b : Bool) (c w : ℕ) {e v : ℕ} → when_fit b c w ≡ Some (e, v) → (b ≡ true) × (c ≡ e)
 unfolding when_fit
-fit_ends true c w z = (refl, cc)
+fit_ends true c w z = (refl, ap fit_end z)
 fit_ends false c w z = let v : ◌≡◌ {A = ℕ} 0 1 = cc in absurd (omega arith)
 
-then_ends : (f : Fit) (g : ℕ → Fit) {e v : ℕ} → then_fit f g ≡ To e v → (a : ℕ) × (w : ℕ) × (f ≡ To a w) × (g a ≡ To e v)
+then_ends : (f : Fit) (g : ℕ → Fit) {e v : ℕ} → then_fit f g ≡ Some (e, v) → (a : ℕ) × (w : ℕ) × (f ≡ Some (a, w)) × (g a ≡ Some (e, v))
 unfolding then_fit
-then_ends (To a w) g z = (a, w, refl, z)
-then_ends No g z = let v : ◌≡◌ {A = ℕ} 0 1 = cc in absurd (omega arith)
+then_ends (Some (a, w)) g z = (a, w, refl, z)
+then_ends None g z = let v : ◌≡◌ {A = ℕ} 0 1 = cc in absurd (omega arith)
 
 and_none : (b : Bool) → (b && false) ≡ false
 and_none true = refl
@@ -244,7 +244,7 @@ module _ (s t : List ℕ) (q : ℕ) (long : length s ≡ length t) (same : (i : 
       (and_same x _ y _ (byte_same 58 a.0 a.1) (λ e. let b = second at h e in byte_same 58 b.0 b.1))
       (λ e. let b = second at h (left_so x y e) in (colons _ (behind 58 _ (omega arith) b.1 (right_so x y e))).0 ∙ ap (λ (i : ℕ). past_run (is_class HexColon) t (i + 1)) b.0)
 
-  colons_in : (at : ℕ) → at ≤ q → {e v : ℕ} → colons_at s at ≡ To e v → e ≤ q
+  colons_in : (at : ℕ) → at ≤ q → {e v : ℕ} → colons_at s at ≡ Some (e, v) → e ≤ q
   unfolding colons_at
   colons_in at h z =
       let x : Bool = eqb (byte_at s (hex_of s at)) 58 in
@@ -265,25 +265,25 @@ module _ (s t : List ℕ) (q : ℕ) (long : length s ≡ length t) (same : (i : 
       let e = digits at h in
       fit_same _ _ _ _ 2 (and_same _ _ _ _ (digit_same refl h) (λ x. byte_same 46 e.0 e.1)) (λ x. ap (λ (k : ℕ). k + 1) e.0)
 
-  period_in : (at : ℕ) → at ≤ q → {e w : ℕ} → period_at s at ≡ To e w → e ≤ q
+  period_in : (at : ℕ) → at ≤ q → {e w : ℕ} → period_at s at ≡ Some (e, w) → e ≤ q
   unfolding period_at when_fit
   period_in at h {e} {w} = go (is_digit (byte_at s at)) (eqb (byte_at s a) 46) refl
     where
       a : ℕ
       a = past_run (is_class Digit) s at
 
-      go : (x y : Bool) → eqb (byte_at s a) 46 ≡ y → when_fit (x && y) (a + 1) 2 ≡ To e w → e ≤ q
-      go true true k z = let v : a + 1 ≡ e = cc in let u = behind 46 a (omega arith) (digits at h).1 k in omega arith
+      go : (x y : Bool) → eqb (byte_at s a) 46 ≡ y → when_fit (x && y) (a + 1) 2 ≡ Some (e, w) → e ≤ q
+      go true true k z = let v : a + 1 ≡ e = ap fit_end z in let u = behind 46 a (omega arith) (digits at h).1 k in omega arith
       go true false k z = let v : ◌≡◌ {A = ℕ} 0 1 = cc in absurd (omega arith)
       go false y k z = let v : ◌≡◌ {A = ℕ} 0 1 = cc in absurd (omega arith)
 
   -- one part and then another, alike in both where the first ends before the fence
-  then_same : (f : Fit) (g g' : ℕ → Fit) → ((e w : ℕ) → f ≡ To e w → g e ≡ g' e) → then_fit f g ≡ then_fit f g'
+  then_same : (f : Fit) (g g' : ℕ → Fit) → ((e w : ℕ) → f ≡ Some (e, w) → g e ≡ g' e) → then_fit f g ≡ then_fit f g'
   unfolding then_fit
-  then_same (To e w) g g' h = h e w refl
-  then_same No g g' h = refl
+  then_same (Some (e, w)) g g' h = h e w refl
+  then_same None g g' h = refl
 
-  on_same : (f f' : Fit) (g g' : ℕ → Fit) → f ≡ f' → ((e w : ℕ) → f ≡ To e w → e ≤ q) → ((e : ℕ) → e ≤ q → g e ≡ g' e) → then_fit f g ≡ then_fit f' g'
+  on_same : (f f' : Fit) (g g' : ℕ → Fit) → f ≡ f' → ((e w : ℕ) → f ≡ Some (e, w) → e ≤ q) → ((e : ℕ) → e ≤ q → g e ≡ g' e) → then_fit f g ≡ then_fit f' g'
   on_same f f' g g' x h k = then_same f g g' (λ e w z. k e (h e w z)) ∙ ap (λ (y : Fit). then_fit y g') x
 
   period_on : (at : ℕ) → at ≤ q → (g g' : ℕ → Fit) → ((e : ℕ) → e ≤ q → g e ≡ g' e) → then_fit (period_at s at) g ≡ then_fit (period_at t at) g'
@@ -291,7 +291,7 @@ module _ (s t : List ℕ) (q : ℕ) (long : length s ≡ length t) (same : (i : 
 
   pub ipv4_same : (at : ℕ) → at ≤ q → ipv4_at s at ≡ ipv4_at t at
   unfolding ipv4_at
-  ipv4_same at h = period_on at h _ _ (λ a ha. period_on a ha _ _ (λ b hb. period_on b hb _ _ (λ c hc. ap (λ (k : ℕ). To k 2) (digits c hc).0)))
+  ipv4_same at h = period_on at h _ _ (λ a ha. period_on a ha _ _ (λ b hb. period_on b hb _ _ (λ c hc. ap (λ (k : ℕ). Some (k, 2)) (digits c hc).0)))
 
   -- 3, 4: the second byte stands at the fence at the latest
   pub two_same : (at : ℕ) → at + 1 ≤ q → two_at s at ≡ two_at t at
@@ -336,7 +336,7 @@ module _ (s t : List ℕ) (q : ℕ) (long : length s ≡ length t) (same : (i : 
   unfolding dotted_at
   dotted_same i h = fit_same (fraction_at s i) (fraction_at t i) _ _ 1 (fraction_same i i refl h) (λ e. (digits (i + 1) (fraction_in i h e)).0)
 
-  dotted_in : (i : ℕ) → i ≤ q → {e w : ℕ} → dotted_at s i ≡ To e w → e ≤ q
+  dotted_in : (i : ℕ) → i ≤ q → {e w : ℕ} → dotted_at s i ≡ Some (e, w) → e ≤ q
   unfolding dotted_at
   dotted_in i h z = let p = fit_ends (fraction_at s i) _ 1 z in let k = (digits (i + 1) (fraction_in i h p.0)).1 in let w = p.1 in omega arith
 
@@ -347,7 +347,7 @@ module _ (s t : List ℕ) (q : ℕ) (long : length s ≡ length t) (same : (i : 
   unfolding three_at
   three_same i h = dotted_on i h _ _ (λ a ha. dotted_on a ha _ _ (λ b hb. dotted_same b hb))
 
-  three_in : (i : ℕ) → i ≤ q → {e w : ℕ} → three_at s i ≡ To e w → e ≤ q
+  three_in : (i : ℕ) → i ≤ q → {e w : ℕ} → three_at s i ≡ Some (e, w) → e ≤ q
   unfolding three_at
   three_in i h z =
       let a = then_ends (dotted_at s i) _ z in
@@ -369,18 +369,18 @@ module _ (s t : List ℕ) (q : ℕ) (long : length s ≡ length t) (same : (i : 
   pub ipv6_same : (at : ℕ) → at ≤ q → ipv6_at s at ≡ ipv6_at t at
   unfolding ipv6_at
   ipv6_same at h = on_same (colons_at s at) (colons_at t at) _ _ (colons_same at h) (λ e w z. colons_in at h z) λ e k.
-      ap (λ (b : Bool). or_to (cond b (three_at s e) No) e) (decimal_same e k) ∙ ap (λ (f : Fit). or_to (cond (decimal_group t e) f No) e) (three_same e k)
+      ap (λ (b : Bool). or_to (cond b (three_at s e) None) e) (decimal_same e k) ∙ ap (λ (f : Fit). or_to (cond (decimal_group t e) f None) e) (three_same e k)
 
-  or_to_in : (b : Bool) (i : ℕ) → i ≤ q → {e v : ℕ} → or_to (cond b (three_at s i) No) i ≡ To e v → e ≤ q
+  or_to_in : (b : Bool) (i : ℕ) → i ≤ q → {e v : ℕ} → or_to (cond b (three_at s i) None) i ≡ Some (e, v) → e ≤ q
   unfolding or_to
-  or_to_in false i h {e} {v} = λ (z : To i 1 ≡ To e v). let u : i ≡ e = cc in omega arith
+  or_to_in false i h {e} {v} = λ (z : ◌≡◌ {A = Fit} (Some (i, 1)) (Some (e, v))). let u : i ≡ e = ap fit_end z in omega arith
   or_to_in true i h {e} {v} = by (three_at s i) refl
     where
-      by : (f : Fit) → three_at s i ≡ f → or_to f i ≡ To e v → e ≤ q
-      by (To a w) k z = let u : a ≡ e = cc in let g = three_in i h k in omega arith
-      by No k z = let u : i ≡ e = cc in omega arith
+      by : (f : Fit) → three_at s i ≡ f → or_to f i ≡ Some (e, v) → e ≤ q
+      by (Some (a, w)) k z = let u : a ≡ e = ap fit_end z in let g = three_in i h k in omega arith
+      by None k z = let u : i ≡ e = ap fit_end z in omega arith
 
-  ipv6_in : (at : ℕ) → at ≤ q → {e v : ℕ} → ipv6_at s at ≡ To e v → e ≤ q
+  ipv6_in : (at : ℕ) → at ≤ q → {e v : ℕ} → ipv6_at s at ≡ Some (e, v) → e ≤ q
   unfolding ipv6_at
   ipv6_in at h z = let a = then_ends (colons_at s at) _ z in or_to_in (decimal_group s a.0) a.0 (colons_in at h a.2) a.3
 
@@ -409,7 +409,7 @@ module _ (s t : List ℕ) (q : ℕ) (long : length s ≡ length t) (same : (i : 
       none_of true = refl
       none_of false = refl
 
-  quote_taken : (c w at : ℕ) {e v : ℕ} → at ≤ q → quote_at c w s at ≡ To e v → e ≤ q → quote_at c w t at ≡ To e v
+  quote_taken : (c w at : ℕ) {e v : ℕ} → at ≤ q → quote_at c w s at ≡ Some (e, v) → e ≤ q → quote_at c w t at ≡ Some (e, v)
   unfolding quote_at when_fit
   quote_taken c w at {e} {v} h = go (eqb (byte_at s at) c) (ltb (close + 1) (length s)) refl refl
     where
@@ -419,15 +419,15 @@ module _ (s t : List ℕ) (q : ℕ) (long : length s ≡ length t) (same : (i : 
       again : close ≤ q → past_span (goes_on c) escapes false t (at + 1) ≡ close
       again k = span_same (goes_on c) escapes (never_past c) s t q same (at + 1) close false refl k
 
-      go : (x y : Bool) → eqb (byte_at s at) c ≡ x → ltb (close + 1) (length s) ≡ y → when_fit (x && y) (close + 1) w ≡ To e v → e ≤ q → when_fit (eqb (byte_at t at) c && ltb (past_span (goes_on c) escapes false t (at + 1) + 1) (length t)) (past_span (goes_on c) escapes false t (at + 1) + 1) w ≡ To e v
+      go : (x y : Bool) → eqb (byte_at s at) c ≡ x → ltb (close + 1) (length s) ≡ y → when_fit (x && y) (close + 1) w ≡ Some (e, v) → e ≤ q → when_fit (eqb (byte_at t at) c && ltb (past_span (goes_on c) escapes false t (at + 1) + 1) (length t)) (past_span (goes_on c) escapes false t (at + 1) + 1) w ≡ Some (e, v)
       go true true k l z b =
-          let u : close + 1 ≡ e = cc in
+          let u : close + 1 ≡ e = ap fit_end z in
           let r = again (omega arith) in
           rw (r, sym (byte_same c {i = at} refl h) ∙ k, ap (ltb (close + 1)) (sym long) ∙ l) z
       go true false k l z b = let u : ◌≡◌ {A = ℕ} 0 1 = cc in absurd (omega arith)
       go false y k l z b = let u : ◌≡◌ {A = ℕ} 0 1 = cc in absurd (omega arith)
 
-  quote_missed : (l : List ℕ) (c w at : ℕ) → eqb (byte_at l at) c ≡ false → quote_at c w l at ≡ No
+  quote_missed : (l : List ℕ) (c w at : ℕ) → eqb (byte_at l at) c ≡ false → quote_at c w l at ≡ None
   unfolding quote_at when_fit
   quote_missed l c w at e = rw e refl
 
@@ -473,8 +473,8 @@ module _ (s t : List ℕ) (q : ℕ) (long : length s ≡ length t) (same : (i : 
   module _ (at : ℕ) (k : Step) where
     or_same : (f f' : Fit) (d d' : Step) → f ≡ f' → (d ≡ k → d' ≡ k) → or_else at f d ≡ k → or_else at f' d' ≡ k
     unfolding or_else
-    or_same (To e v) f' d d' p g z = ap (λ (y : Fit). or_else at y d') (sym p) ∙ z
-    or_same No f' d d' p g z = ap (λ (y : Fit). or_else at y d') (sym p) ∙ g z
+    or_same (Some (e, v)) f' d d' p g z = ap (λ (y : Fit). or_else at y d') (sym p) ∙ z
+    or_same None f' d d' p g z = ap (λ (y : Fit). or_else at y d') (sym p) ∙ g z
 
     pick_same : (b b' : Bool) (r d d' : Step) → b ≡ b' → (d ≡ k → d' ≡ k) → cond b r d ≡ k → cond b' r d' ≡ k
     pick_same true b' r d d' e g z = ap (λ (y : Bool). cond y r d') (sym e) ∙ z
@@ -495,37 +495,37 @@ module _ (s t : List ℕ) (q : ℕ) (long : length s ≡ length t) (same : (i : 
 
   -- A token that ends before the fence.
   module _ (at : ℕ) {w a : ℕ} {n : Cursor} (ends : n.at ≤ q) where
-    lost : (i j k : ℕ) → refused i j k ≡ Taken w a n → ⊥
+    lost : (i j k : ℕ) → refused i j k ≡ Ok (w, a, n) → ⊥
     unfolding refused
     lost i j k z = let v : ◌≡◌ {A = ℕ} 0 1 = cc in omega arith
 
     -- a quote: taken alike; or no quote stands there; or the source has no end of it, and then no token is there
-    or_quote : (c v : ℕ) (d d' : Step) → at ≤ q → (d ≡ Taken w a n → d' ≡ Taken w a n) → (byte_at s at ≡ c → d ≡ Taken w a n → ⊥) → or_else at (quote_at c v s at) d ≡ Taken w a n → or_else at (quote_at c v t at) d' ≡ Taken w a n
+    or_quote : (c v : ℕ) (d d' : Step) → at ≤ q → (d ≡ Ok (w, a, n) → d' ≡ Ok (w, a, n)) → (byte_at s at ≡ c → d ≡ Ok (w, a, n) → ⊥) → or_else at (quote_at c v s at) d ≡ Ok (w, a, n) → or_else at (quote_at c v t at) d' ≡ Ok (w, a, n)
     unfolding or_else taken
     or_quote c v d d' h k none = go (quote_at c v s at) refl (eqb (byte_at s at) c) refl
       where
-        go : (f : Fit) → quote_at c v s at ≡ f → (b : Bool) → eqb (byte_at s at) c ≡ b → or_else at f d ≡ Taken w a n → or_else at (quote_at c v t at) d' ≡ Taken w a n
-        go (To e u) p b l z = let y : e ≡ n.at = cc in ap (λ (f : Fit). or_else at f d') (quote_taken c v at h p (omega arith)) ∙ z
-        go No p true l z = absurd (none (eqb-true (byte_at s at) c l) z)
-        go No p false l z = ap (λ (f : Fit). or_else at f d') (quote_missed t c v at (sym (byte_same c {i = at} refl h) ∙ l)) ∙ k z
+        go : (f : Fit) → quote_at c v s at ≡ f → (b : Bool) → eqb (byte_at s at) c ≡ b → or_else at f d ≡ Ok (w, a, n) → or_else at (quote_at c v t at) d' ≡ Ok (w, a, n)
+        go (Some (e, u)) p b l z = let y : e ≡ n.at = ap taken_end z in ap (λ (f : Fit). or_else at f d') (quote_taken c v at h p (omega arith)) ∙ z
+        go None p true l z = absurd (none (eqb-true (byte_at s at) c l) z)
+        go None p false l z = ap (λ (f : Fit). or_else at f d') (quote_missed t c v at (sym (byte_same c {i = at} refl h) ∙ l)) ∙ k z
 
     -- no name begins with a quote
-    no_name : (c : ℕ) → is_name_start c ≡ false → byte_at s at ≡ c → tail s at ≡ Taken w a n → ⊥
+    no_name : (c : ℕ) → is_name_start c ≡ false → byte_at s at ≡ c → tail s at ≡ Ok (w, a, n) → ⊥
     unfolding name_at when_fit or_else
     no_name c f e z = lost 4 at (at + 1) (sym (rw (ap is_name_start e ∙ f) refl) ∙ z)
 
-    tail_same : at ≤ q → quotes s at ≡ Taken w a n → quotes t at ≡ Taken w a n
+    tail_same : at ≤ q → quotes s at ≡ Ok (w, a, n) → quotes t at ≡ Ok (w, a, n)
     unfolding or_else
-    tail_same h = or_quote 34 9 _ _ h (or_quote 39 10 _ _ h (or_same at (Taken w a n) _ _ _ _ (name_same at h) (λ z. z)) (no_name 39 refl)) open_string
+    tail_same h = or_quote 34 9 _ _ h (or_quote 39 10 _ _ h (or_same at (Ok (w, a, n)) _ _ _ _ (name_same at h) (λ z. z)) (no_name 39 refl)) open_string
       where
-        open_string : byte_at s at ≡ 34 → or_else at (quote_at 39 10 s at) (tail s at) ≡ Taken w a n → ⊥
+        open_string : byte_at s at ≡ 34 → or_else at (quote_at 39 10 s at) (tail s at) ≡ Ok (w, a, n) → ⊥
         open_string e z = no_name 34 refl e (sym (ap (λ (f : Fit). or_else at f (tail s at)) (quote_missed s 39 10 at (ap (λ (b : ℕ). eqb b 39) e))) ∙ z)
 
-    pub token_same : at + 1 ≤ q → token_at s at ≡ Taken w a n → token_at t at ≡ Taken w a n
-    token_same h = token_upto at (Taken w a n) (tail_same (omega arith)) h
+    pub token_same : at + 1 ≤ q → token_at s at ≡ Ok (w, a, n) → token_at t at ≡ Ok (w, a, n)
+    token_same h = token_upto at (Ok (w, a, n)) (tail_same (omega arith)) h
 
   -- A token that begins before the fence ends before it, or behind it altogether.
-  ipv4_in : (at : ℕ) → at ≤ q → {e v : ℕ} → ipv4_at s at ≡ To e v → e ≤ q
+  ipv4_in : (at : ℕ) → at ≤ q → {e v : ℕ} → ipv4_at s at ≡ Some (e, v) → e ≤ q
   unfolding ipv4_at
   ipv4_in at h {e} {v} z =
       let a = then_ends (period_at s at) _ z in
@@ -538,21 +538,21 @@ module _ (s t : List ℕ) (q : ℕ) (long : length s ≡ length t) (same : (i : 
       let w : past_run (is_class Digit) s c.0 ≡ e = last_of _ c.3 in
       omega arith
     where
-      last_of : (x : ℕ) → To x 2 ≡ To e v → x ≡ e
-      last_of x z = cc
+      last_of : (x : ℕ) → ◌≡◌ {A = Fit} (Some (x, 2)) (Some (e, v)) → x ≡ e
+      last_of x z = ap fit_end z
 
-  two_in : (at : ℕ) → at + 1 ≤ q → {e v : ℕ} → two_at s at ≡ To e v → e ≤ q
+  two_in : (at : ℕ) → at + 1 ≤ q → {e v : ℕ} → two_at s at ≡ Some (e, v) → e ≤ q
   unfolding two_at sign_fit
   two_in at h {e} {v} z = let p = fit_ends (not (eqb (two_sign (byte_at s at) (byte_at s (at + 1))) 0)) (at + 2) _ z in let w = p.1 in elim (dec_lt (at + 1) q) [ yes k ↦ omega arith | no k ↦ absurd (true≢false (sym p.0 ∙ ap (λ (x : ℕ). not (eqb x 0)) (ap (λ (j : ℕ). two_sign (byte_at s at) (byte_at s j)) (at_q k) ∙ lone_second (byte_at s at) (byte_at s q) fence))) ]
     where
       at_q : (at + 1 < q → ⊥) → at + 1 ≡ q
       at_q k = omega arith
 
-  one_in : (at : ℕ) → at + 1 ≤ q → {e v : ℕ} → one_at s at ≡ To e v → e ≤ q
+  one_in : (at : ℕ) → at + 1 ≤ q → {e v : ℕ} → one_at s at ≡ Some (e, v) → e ≤ q
   unfolding one_at sign_fit
   one_in at h z = let p = (fit_ends (not (eqb (one_sign (byte_at s at)) 0)) (at + 1) _ z).1 in omega arith
 
-  as_in : (at : ℕ) → at + 1 ≤ q → {e v : ℕ} → as_at s at ≡ To e v → e ≤ q
+  as_in : (at : ℕ) → at + 1 ≤ q → {e v : ℕ} → as_at s at ≡ Some (e, v) → e ≤ q
   unfolding as_at
   as_in at h z =
       let x : Bool = pair_at s at 65 83 in
@@ -562,7 +562,7 @@ module _ (s t : List ℕ) (q : ℕ) (long : length s ≡ length t) (same : (i : 
       let d = (digits (at + 2) (omega arith)).1 in
       omega arith
 
-  hex_in : (at : ℕ) → at + 1 ≤ q → {e v : ℕ} → hex_at s at ≡ To e v → e ≤ q
+  hex_in : (at : ℕ) → at + 1 ≤ q → {e v : ℕ} → hex_at s at ≡ Some (e, v) → e ≤ q
   unfolding hex_at
   hex_in at h z =
       let p = fit_ends (pair_at s at 48 120) _ 6 z in
@@ -571,7 +571,7 @@ module _ (s t : List ℕ) (q : ℕ) (long : length s ≡ length t) (same : (i : 
       let d = (hex (at + 2) (omega arith)).1 in
       omega arith
 
-  number_in : (at : ℕ) → at ≤ q → {e v : ℕ} → number_at s at ≡ To e v → e ≤ q
+  number_in : (at : ℕ) → at ≤ q → {e v : ℕ} → number_at s at ≡ Some (e, v) → e ≤ q
   unfolding number_at
   number_in at h z =
       let w = figures at h in
@@ -581,7 +581,7 @@ module _ (s t : List ℕ) (q : ℕ) (long : length s ≡ length t) (same : (i : 
       let p = (fit_ends (is_digit (byte_at s at)) _ _ z).1 in
       omega arith
 
-  name_in : (at : ℕ) → at ≤ q → {e v : ℕ} → name_at s at ≡ To e v → e ≤ q
+  name_in : (at : ℕ) → at ≤ q → {e v : ℕ} → name_at s at ≡ Some (e, v) → e ≤ q
   unfolding name_at
   name_in at h z = let d = (parts at h).1 in let p = (fit_ends (is_name_start (byte_at s at)) _ _ z).1 in omega arith
 
@@ -593,7 +593,7 @@ module _ (s t : List ℕ) (q : ℕ) (long : length s ≡ length t) (same : (i : 
   goes_on_lem c false (inl e) semicolon = ap (λ (y : ℕ). goes_on y false 59) e
   goes_on_lem c false (inr e) semicolon = ap (λ (y : ℕ). goes_on y false 59) e
 
-  quote_in : (c w at : ℕ) → (c ≡ 34) ⊎ (c ≡ 39) → {e v : ℕ} → quote_at c w s at ≡ To e v → e ≤ q + 1 → e ≤ q
+  quote_in : (c w at : ℕ) → (c ≡ 34) ⊎ (c ≡ 39) → {e v : ℕ} → quote_at c w s at ≡ Some (e, v) → e ≤ q + 1 → e ≤ q
   unfolding quote_at
   quote_in c w at k {e} z h =
       let close : ℕ = past_span (goes_on c) escapes false s (at + 1) in
@@ -602,21 +602,21 @@ module _ (s t : List ℕ) (q : ℕ) (long : length s ≡ length t) (same : (i : 
       elim (dec_lt close q) [ yes l ↦ omega arith | no l ↦ absurd (true≢false (sym (goes_on_lem c f.0 k fence) ∙ ap (λ (j : ℕ). goes_on c f.0 (byte_at s j)) {x = q} {y = close} (omega arith) ∙ f.1)) ]
 
   module _ (at : ℕ) {w a : ℕ} {n : Cursor} (upto : n.at ≤ q + 1) where
-    or_in : (f : Fit) (d : Step) → ((e v : ℕ) → f ≡ To e v → e ≤ q + 1 → e ≤ q) → (d ≡ Taken w a n → (n.at ≤ q) × (a ≡ at)) → or_else at f d ≡ Taken w a n → (n.at ≤ q) × (a ≡ at)
+    or_in : (f : Fit) (d : Step) → ((e v : ℕ) → f ≡ Some (e, v) → e ≤ q + 1 → e ≤ q) → (d ≡ Ok (w, a, n) → (n.at ≤ q) × (a ≡ at)) → or_else at f d ≡ Ok (w, a, n) → (n.at ≤ q) × (a ≡ at)
     unfolding or_else taken
-    or_in (To e v) d g k z = let y : e ≡ n.at = cc in let u : at ≡ a = cc in (let r = g e v refl (omega arith) in omega arith, sym u)
-    or_in No d g k z = k z
+    or_in (Some (e, v)) d g k z = let y : e ≡ n.at = ap taken_end z in let u : at ≡ a = ap taken_start z in (let r = g e v refl (omega arith) in omega arith, sym u)
+    or_in None d g k z = k z
 
-    pick_in : (b : Bool) (i j k : ℕ) (d : Step) → (d ≡ Taken w a n → (n.at ≤ q) × (a ≡ at)) → cond b (refused i j k) d ≡ Taken w a n → (n.at ≤ q) × (a ≡ at)
+    pick_in : (b : Bool) (i j k : ℕ) (d : Step) → (d ≡ Ok (w, a, n) → (n.at ≤ q) × (a ≡ at)) → cond b (refused i j k) d ≡ Ok (w, a, n) → (n.at ≤ q) × (a ≡ at)
     unfolding refused
     pick_in true i j k d f z = let v : ◌≡◌ {A = ℕ} 0 1 = cc in absurd (omega arith)
     pick_in false i j k d f z = f z
 
-    none_in : refused 4 at (at + 1) ≡ Taken w a n → (n.at ≤ q) × (a ≡ at)
+    none_in : refused 4 at (at + 1) ≡ Ok (w, a, n) → (n.at ≤ q) × (a ≡ at)
     unfolding refused
     none_in z = let v : ◌≡◌ {A = ℕ} 0 1 = cc in absurd (omega arith)
 
-    pub ends_in : at + 1 ≤ q → token_at s at ≡ Taken w a n → (n.at ≤ q) × (a ≡ at)
+    pub ends_in : at + 1 ≤ q → token_at s at ≡ Ok (w, a, n) → (n.at ≤ q) × (a ≡ at)
     unfolding token_at
     ends_in h =
         let g : at ≤ q = omega arith in
@@ -650,19 +650,19 @@ module _ (l : List ℕ) (q : ℕ) {b : ℕ} (fence : Fence b) (stands : byte_at 
   lone c d brace = refl
   lone c d semicolon = refl
 
-  no_ipv6 : ipv6_at l q ≡ No
+  no_ipv6 : ipv6_at l q ≡ None
   unfolding ipv6_at colons_at when_fit then_fit
   no_ipv6 = rw (stays_at HexDigit (inr (inr (inl refl))), ap (λ (x : ℕ). eqb x 58) stands ∙ is_not 58 (omega arith) fence) refl
 
-  no_ipv4 : ipv4_at l q ≡ No
+  no_ipv4 : ipv4_at l q ≡ None
   unfolding ipv4_at period_at when_fit then_fit
   no_ipv4 = rw (ap is_digit stands ∙ no_digit fence) refl
 
-  no_two : two_at l q ≡ No
+  no_two : two_at l q ≡ None
   unfolding two_at sign_fit when_fit
   no_two = rw (ap (λ (x : ℕ). two_sign x (byte_at l (q + 1))) stands ∙ lone b (byte_at l (q + 1)) fence) refl
 
-  sign : {c : ℕ} → Fence c → sign_fit (one_sign c) (q + 1) ≡ To (q + 1) (one_sign c)
+  sign : {c : ℕ} → Fence c → sign_fit (one_sign c) (q + 1) ≡ Some (q + 1, one_sign c)
   unfolding one_sign one_signs word_in sign_fit when_fit texts.same
   sign brace = refl
   sign semicolon = refl

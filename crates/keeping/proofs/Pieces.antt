@@ -1,4 +1,5 @@
 -- A piece of an f-string's text that ends before a `}` or `;` at which two texts agree, and up to it, is the same piece in both.
+use Rattle.std.specs.Prelude.{Some, None}
 use mathlib.Core.Path.{◌≡◌, refl, sym, ap, ◌∙◌, subst}
 use mathlib.Core.List.{List, ◌∷◌}
 use mathlib.Core.Bool.{Bool, true, false, true≢false}
@@ -13,8 +14,9 @@ use Rattle.chars.specs.Chars.{byte_at}
 use Rattle.chars.proofs.Runs.{byte_in}
 use Rattle.texts.specs.declared.Mode.{Mode}
 use Rattle.texts.specs.declared.Mode.TheVariants.{Text, Escape, Letter, Code, Brace, Hole, Last, Torn}
+use Rattle.texts.specs.Results.{Scanned}
 use Rattle.texts.specs.declared.Part.{Part}
-use Rattle.texts.specs.declared.Part.TheVariants.{Before, Ends, None}
+use Rattle.texts.specs.declared.Part.TheVariants.{Before, Ends}
 use Rattle.texts.specs.Parts.{part_at}
 use Rattle.texts.specs.Modes.{mode_after, scans, ended_at, modes_from}
 use Rattle.texts.proofs.Items.{stays, modes_part}
@@ -43,12 +45,12 @@ unfolding modes_from
 goes m at b l e = subst (λ (x : Bool). elim x [ true ↦ modes_from (mode_after m b) (at + 1) l | false ↦ ended_at m at ] ≡ modes_from (mode_after m b) (at + 1) l) (sym e) refl
 
 -- a piece that ends before a place
-abbrev pub Upto : ℕ → Part → Type 0
-Upto q (Before e) = e ≤ q
-Upto q (Ends e) = e ≤ q
+abbrev pub Upto : ℕ → Scanned → Type 0
+Upto q (Some (Before e)) = e ≤ q
+Upto q (Some (Ends e)) = e ≤ q
 Upto q None = ⊥
 
-past : (q at top : ℕ) {p : Part} → q < at → Parted at top p → Upto q p → ⊥
+past : (q at top : ℕ) {p : Scanned} → q < at → Parted at top p → Upto q p → ⊥
 past q at top h (parted_before k l) u = omega (arith, h, k, u)
 past q at top h (parted_ends k l) u = omega (arith, h, k, u)
 past q at top h parted_none u = u
@@ -84,7 +86,7 @@ module _ (s t : List ℕ) (q : ℕ) (long : length s ≡ length t) (same : (i : 
           ∙ ih (at + 1) (mode_after m (byte_at s at)) (omega arith) (next place) (subst (Upto q) x u)
           ∙ sym x
 
-  from : (at : ℕ) {p : Part} → Parted at (length s) p → Upto q p → at ≤ q
+  from : (at : ℕ) {p : Scanned} → Parted at (length s) p → Upto q p → at ≤ q
   from at (parted_before k l) u = omega (arith, k, u)
   from at (parted_ends k l) u = omega (arith, k, u)
   from at parted_none u = absurd u

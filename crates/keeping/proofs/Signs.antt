@@ -1,4 +1,5 @@
 -- The word of a token `}` or `;` is that of its byte, and of no other rule.
+use Rattle.std.specs.Prelude.{Some, None, Ok}
 use mathlib.Core.Path.{◌≡◌, refl, sym, ap, ◌∙◌, subst}
 use mathlib.Core.List.{List, [], ◌∷◌}
 use mathlib.Core.Bool.{Bool, true, false, not, ◌&&◌, ◌||◌, cond}
@@ -11,11 +12,10 @@ use Rattle.chars.specs.declared.Class.TheVariants.{Figure, NamePart}
 use Rattle.chars.specs.Chars.{byte_at, is_class, is_digit}
 use Rattle.chars.specs.Runs.{past_run}
 use Rattle.chars.specs.Texts as texts
-use Rattle.tokens.specs.declared.Fit.{Fit}
-use Rattle.tokens.specs.declared.Fit.TheVariants.{To, No}
+use Rattle.tokens.proofs.Results.{taken_word, taken_start, taken_end}
+use Rattle.tokens.specs.Results.{Fit}
 use Rattle.tokens.specs.declared.Cursor.{Cursor}
-use Rattle.tokens.specs.declared.Step.{Step}
-use Rattle.tokens.specs.declared.Step.TheVariants.{Taken}
+use Rattle.tokens.specs.Results.{Step}
 use Rattle.tokens.specs.Words.{Entry, two_signs, one_signs, keywords, word_in, two_sign, one_sign, name_word}
 use Rattle.tokens.specs.Rules.{when_fit, sign_fit, then_fit, pair_at, colons_at, fraction_at, three_at, decimal_group, or_to, ipv6_at, period_at, ipv4_at, two_at, one_at, as_at, hex_at, number_at, quote_at, is_name_start, name_at, taken, refused, or_else, token_at}
 use Rattle.grammar.specs.Grammar.{one_of}
@@ -81,8 +81,8 @@ one_fence b h = elim (or_cases (eqb b 125) (eqb b 59) (word_in_lem fenced one_si
 
 -- a rule that gives no such word
 abbrev Off : Fit → Type 0
-Off (To e w) = T (one_of w closers) → ⊥
-Off No = Unit {0}
+Off (Some (e, w)) = T (one_of w closers) → ⊥
+Off None = Unit {0}
 
 when_off : (b : Bool) (e w : ℕ) → (T (one_of w closers) → ⊥) → Off (when_fit b e w)
 unfolding when_fit
@@ -91,18 +91,18 @@ when_off false e w h = tt
 
 then_off : (f : Fit) (g : ℕ → Fit) → ((e : ℕ) → Off (g e)) → Off (then_fit f g)
 unfolding then_fit
-then_off (To e w) g h = h e
-then_off No g h = tt
+then_off (Some (e, w)) g h = h e
+then_off None g h = tt
 
 to_off : (f : Fit) (e : ℕ) → Off (or_to f e)
 unfolding or_to
-to_off (To a w) e = λ z. z
-to_off No e = λ z. z
+to_off (Some (a, w)) e = λ z. z
+to_off None e = λ z. z
 
 module _ (s : List ℕ) (at : ℕ) where
   ipv6_off : Off (ipv6_at s at)
   unfolding ipv6_at
-  ipv6_off = then_off (colons_at s at) _ (λ e. to_off (cond (decimal_group s e) (three_at s e) No) e)
+  ipv6_off = then_off (colons_at s at) _ (λ e. to_off (cond (decimal_group s e) (three_at s e) None) e)
 
   ipv4_off : Off (ipv4_at s at)
   unfolding ipv4_at
@@ -127,32 +127,32 @@ module _ (s : List ℕ) (at : ℕ) where
     pub fence : Fence (byte_at s at)
 
   module _ {w a : ℕ} {n : Cursor} (closes : T (one_of w closers)) where
-    or_off : (f : Fit) (d : Step) → Off f → (d ≡ Taken w a n → Sign w a n) → or_else at f d ≡ Taken w a n → Sign w a n
+    or_off : (f : Fit) (d : Step) → Off f → (d ≡ Ok (w, a, n) → Sign w a n) → or_else at f d ≡ Ok (w, a, n) → Sign w a n
     unfolding or_else taken
-    or_off (To e v) d o k z = let u : v ≡ w = cc in absurd (o (subst (λ (x : ℕ). T (one_of x closers)) (sym u) closes))
-    or_off No d o k z = k z
+    or_off (Some (e, v)) d o k z = let u : v ≡ w = ap taken_word z in absurd (o (subst (λ (x : ℕ). T (one_of x closers)) (sym u) closes))
+    or_off None d o k z = k z
 
-    or_one : (d : Step) → (d ≡ Taken w a n → Sign w a n) → or_else at (one_at s at) d ≡ Taken w a n → Sign w a n
+    or_one : (d : Step) → (d ≡ Ok (w, a, n) → Sign w a n) → or_else at (one_at s at) d ≡ Ok (w, a, n) → Sign w a n
     unfolding or_else taken one_at sign_fit when_fit
     or_one d k = by (not (eqb (one_sign (byte_at s at)) 0))
       where
-        by : (b : Bool) → or_else at (when_fit b (at + 1) (one_sign (byte_at s at))) d ≡ Taken w a n → Sign w a n
+        by : (b : Bool) → or_else at (when_fit b (at + 1) (one_sign (byte_at s at))) d ≡ Ok (w, a, n) → Sign w a n
         by true z =
-            let u : one_sign (byte_at s at) ≡ w = cc in
-            let v : at ≡ a = cc in
-            let y : at + 1 ≡ n.at = cc in
+            let u : one_sign (byte_at s at) ≡ w = ap taken_word z in
+            let v : at ≡ a = ap taken_start z in
+            let y : at + 1 ≡ n.at = ap taken_end z in
             record { here = sym v; behind = sym y; fence = one_fence (byte_at s at) (subst (λ (x : ℕ). T (one_of x closers)) (sym u) closes) }
         by false z = k z
 
-    none : (i j k : ℕ) → refused i j k ≡ Taken w a n → Sign w a n
+    none : (i j k : ℕ) → refused i j k ≡ Ok (w, a, n) → Sign w a n
     unfolding refused
     none i j k z = let v : ◌≡◌ {A = ℕ} 0 1 = cc in absurd (omega arith)
 
-    or_refused : (b : Bool) (i j k : ℕ) (d : Step) → (d ≡ Taken w a n → Sign w a n) → cond b (refused i j k) d ≡ Taken w a n → Sign w a n
+    or_refused : (b : Bool) (i j k : ℕ) (d : Step) → (d ≡ Ok (w, a, n) → Sign w a n) → cond b (refused i j k) d ≡ Ok (w, a, n) → Sign w a n
     or_refused true i j k d f z = none i j k z
     or_refused false i j k d f z = f z
 
-    pub sign_token : token_at s at ≡ Taken w a n → Sign w a n
+    pub sign_token : token_at s at ≡ Ok (w, a, n) → Sign w a n
     unfolding token_at as_at hex_at quote_at name_at
     sign_token =
         or_off _ _ ipv6_off

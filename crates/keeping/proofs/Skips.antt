@@ -13,7 +13,7 @@ use Rattle.chars.specs.declared.Class.TheVariants.{Blank, Line}
 use Rattle.chars.specs.Chars.{byte_at, is_class}
 use Rattle.chars.specs.Runs.{past_run}
 use Rattle.chars.proofs.Runs.{outside}
-use Rattle.tokens.specs.declared.Step.{Step}
+use Rattle.tokens.specs.Results.{Step}
 use Rattle.tokens.specs.Blanks.{skip_all, past_comment}
 use Rattle.tokens.specs.Rules.{pair_at, refused, token_at}
 use Rattle.tokens.specs.Tokens.{step_at}

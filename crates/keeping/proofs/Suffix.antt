@@ -1,4 +1,5 @@
 -- Two sources of one length that agree from a place on show the same there.
+use Rattle.std.specs.Prelude.{Some, None}
 use mathlib.Core.Path.{◌≡◌, refl, sym, ap, ◌∙◌}
 use mathlib.Core.List.{List, [], ◌∷◌}
 use mathlib.Core.Bool.{Bool, true, false, ◌&&◌, cond, true≢false}
@@ -14,8 +15,8 @@ use Rattle.chars.specs.declared.Class.TheVariants.{Digit, Figure, HexDigit, HexC
 use Rattle.chars.specs.Chars.{byte_at, is_class, is_digit}
 use Rattle.chars.specs.Runs.{past_span, past_run, behind_last}
 use Rattle.chars.proofs.Runs.{byte_drop, past_ge}
-use Rattle.tokens.specs.declared.Fit.{Fit}
-use Rattle.tokens.specs.declared.Fit.TheVariants.{To, No}
+use Rattle.tokens.proofs.Results.{fit_end}
+use Rattle.tokens.specs.Results.{Fit}
 use Rattle.tokens.specs.Blanks.{skip_all}
 use Rattle.tokens.specs.Rules.{when_fit, then_fit, pair_at, colons_at, fraction_at, dotted_at, three_at, decimal_group, or_to, ipv6_at, period_at, ipv4_at, two_at, one_at, as_at, hex_at, number_at, goes_on, escapes, quote_at, name_at, token_at}
 use Rattle.tokens.specs.Tokens.{step_at}
@@ -66,21 +67,21 @@ module _ (s t : List ℕ) (from : ℕ) (long : length s ≡ length t) (rest : (i
     unfolding period_at
     period_on i k = let e : ℕ = past_run (is_class Digit) s i in let g = past_ge (is_class Digit) s i in rw (sym (run_on (is_class Digit) i (omega arith)), sym (byte_on i (omega arith)), sym (byte_on e (omega arith))) refl
 
-    fit_ge : (b : Bool) (i x w : ℕ) {e v : ℕ} → i ≤ x → when_fit b x w ≡ To e v → i ≤ e
+    fit_ge : (b : Bool) (i x w : ℕ) {e v : ℕ} → i ≤ x → when_fit b x w ≡ Some (e, v) → i ≤ e
     unfolding when_fit
-    fit_ge true i x w {e} h z = let v : x ≡ e = cc in omega arith
+    fit_ge true i x w {e} h z = let v : x ≡ e = ap fit_end z in omega arith
     fit_ge false i x w {e} h z = let v : ◌≡◌ {A = ℕ} 0 1 = cc in absurd (omega arith)
 
-    then_on : (f : Fit) (g g' : ℕ → Fit) → ((e w : ℕ) → f ≡ To e w → g e ≡ g' e) → then_fit f g ≡ then_fit f g'
+    then_on : (f : Fit) (g g' : ℕ → Fit) → ((e w : ℕ) → f ≡ Some (e, w) → g e ≡ g' e) → then_fit f g ≡ then_fit f g'
     unfolding then_fit
-    then_on (To e w) g g' k = k e w refl
-    then_on No g g' k = refl
+    then_on (Some (e, w)) g g' k = k e w refl
+    then_on None g g' k = refl
 
     -- one part and then another, alike where the first is
-    part_on : (f f' : Fit) (g g' : ℕ → Fit) → f ≡ f' → ((e w : ℕ) → f ≡ To e w → at ≤ e) → ((e : ℕ) → at ≤ e → g e ≡ g' e) → then_fit f g ≡ then_fit f' g'
+    part_on : (f f' : Fit) (g g' : ℕ → Fit) → f ≡ f' → ((e w : ℕ) → f ≡ Some (e, w) → at ≤ e) → ((e : ℕ) → at ≤ e → g e ≡ g' e) → then_fit f g ≡ then_fit f' g'
     part_on f f' g g' x h k = then_on f g g' (λ e w z. k e (h e w z)) ∙ ap (λ (y : Fit). then_fit y g') x
 
-    period_ge : (i : ℕ) → at ≤ i → (e w : ℕ) → period_at s i ≡ To e w → at ≤ e
+    period_ge : (i : ℕ) → at ≤ i → (e w : ℕ) → period_at s i ≡ Some (e, w) → at ≤ e
     unfolding period_at
     period_ge i k e w z = let g = past_ge (is_class Digit) s i in fit_ge (is_digit (byte_at s i) && eqb (byte_at s (past_run (is_class Digit) s i)) 46) at _ 2 (omega arith) z
 
@@ -89,7 +90,7 @@ module _ (s t : List ℕ) (from : ℕ) (long : length s ≡ length t) (rest : (i
 
     ipv4_on : ipv4_at s at ≡ ipv4_at t at
     unfolding ipv4_at
-    ipv4_on = period_then at (omega arith) _ _ (λ a ha. period_then a ha _ _ (λ b hb. period_then b hb _ _ (λ c hc. ap (λ (k : ℕ). To k 2) (run_on (is_class Digit) c (omega arith)))))
+    ipv4_on = period_then at (omega arith) _ _ (λ a ha. period_then a ha _ _ (λ b hb. period_then b hb _ _ (λ c hc. ap (λ (k : ℕ). Some (k, 2)) (run_on (is_class Digit) c (omega arith)))))
 
     two_on : two_at s at ≡ two_at t at
     unfolding two_at
@@ -119,7 +120,7 @@ module _ (s t : List ℕ) (from : ℕ) (long : length s ≡ length t) (rest : (i
     unfolding dotted_at
     dotted_on i k = rw (sym (fraction_on i (omega arith)), sym (run_on (is_class Digit) (i + 1) (omega arith))) refl
 
-    dotted_ge : (i : ℕ) → at ≤ i → (e w : ℕ) → dotted_at s i ≡ To e w → at ≤ e
+    dotted_ge : (i : ℕ) → at ≤ i → (e w : ℕ) → dotted_at s i ≡ Some (e, w) → at ≤ e
     unfolding dotted_at
     dotted_ge i k e w z = let g = past_ge (is_class Digit) s (i + 1) in fit_ge (fraction_at s i) at _ 1 (omega arith) z
 
@@ -151,14 +152,14 @@ module _ (s t : List ℕ) (from : ℕ) (long : length s ≡ length t) (rest : (i
     decimal_on k e l g c = let u = last_on 58 k e l g c in let v = u.1 in
         ap (λ (n : ℕ). ltb (behind_last 58 s e) e && eqb n e) (run_on (is_class Digit) (behind_last 58 s e) (omega arith)) ∙ ap (λ (n : ℕ). ltb n e && eqb (past_run (is_class Digit) t n) e) u.0
 
-    both_so : (x y : Bool) (i w : ℕ) {e v : ℕ} → when_fit (x && y) i w ≡ To e v → (y ≡ true) × (i ≡ e)
+    both_so : (x y : Bool) (i w : ℕ) {e v : ℕ} → when_fit (x && y) i w ≡ Some (e, v) → (y ≡ true) × (i ≡ e)
     unfolding when_fit
-    both_so true true i w z = (refl, cc)
+    both_so true true i w z = (refl, ap fit_end z)
     both_so true false i w z = let v : ◌≡◌ {A = ℕ} 0 1 = cc in absurd (omega arith)
     both_so false y i w z = let v : ◌≡◌ {A = ℕ} 0 1 = cc in absurd (omega arith)
 
     -- the second colon of such a token
-    second_colon : (e w : ℕ) → colons_at s at ≡ To e w → (k : ℕ) × (at ≤ k) × (k < e) × (byte_at s k ≡ 58)
+    second_colon : (e w : ℕ) → colons_at s at ≡ Some (e, w) → (k : ℕ) × (at ≤ k) × (k < e) × (byte_at s k ≡ 58)
     unfolding colons_at
     second_colon e w z =
         let a : ℕ = past_run (is_class HexDigit) s at in
@@ -173,8 +174,8 @@ module _ (s t : List ℕ) (from : ℕ) (long : length s ≡ length t) (rest : (i
     ipv6_on : ipv6_at s at ≡ ipv6_at t at
     unfolding ipv6_at
     ipv6_on = then_on (colons_at s at) _ _ (λ e w z. let k = second_colon e w z in let g = k.1 in let l = k.2 in
-        ap (λ (b : Bool). or_to (cond b (three_at s e) No) e) (decimal_on k.0 e k.1 k.2 k.3) ∙ ap (λ (f : Fit). or_to (cond (decimal_group t e) f No) e) (three_on e (omega arith)))
-        ∙ ap (λ (f : Fit). then_fit f (λ e. or_to (cond (decimal_group t e) (three_at t e) No) e)) colons_on
+        ap (λ (b : Bool). or_to (cond b (three_at s e) None) e) (decimal_on k.0 e k.1 k.2 k.3) ∙ ap (λ (f : Fit). or_to (cond (decimal_group t e) f None) e) (three_on e (omega arith)))
+        ∙ ap (λ (f : Fit). then_fit f (λ e. or_to (cond (decimal_group t e) (three_at t e) None) e)) colons_on
 
     number_on : number_at s at ≡ number_at t at
     unfolding number_at

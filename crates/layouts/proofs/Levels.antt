@@ -2,13 +2,12 @@
 use mathlib.Core.Path.{◌≡◌, refl}
 use mathlib.Core.Bool.{Bool, true, false, cond}
 use Prim.Native.Nat.{ℕ, ◌+◌, ◌<◌, ◌≤◌}
-use lib.Dec.{eqb}
+use lib.Dec.{eqb, leb, leb→le}
 use native.Mathlib.Omega.{arith}
 use Rattle.rows.specs.Kinds as kinds
 use mathlib.Core.List.{[], ◌∷◌}
 use Rattle.grammar.specs.Words.{open_brace, four_words}
 use Rattle.canon.specs.Layout as canon
-use Rattle.places.proofs.Placed.{binary_small}
 use Rattle.places.specs.Under.{under, under_operand}
 use Rattle.layouts.proofs.Steps.{chosen}
 
@@ -26,6 +25,15 @@ whole_low = asks_low canon.whole 0 refl (omega arith)
 
 head_low : Low canon.head
 head_low = asks_low canon.head 0 refl (omega arith)
+
+binary_small : (n d : ℕ) → n ≡ canon.binary_level d → n ≤ 5
+binary_small n d e = go (leb d 2) refl (leb d 8) (leb d 10) e
+  where
+    go : (a : Bool) → leb d 2 ≡ a → (b c : Bool) → n ≡ cond a d (cond b 3 (cond c 4 5)) → n ≤ 5
+    go true h b c q = let l = leb→le d 2 (rw h tt) in omega arith
+    go false h true c q = omega arith
+    go false h false true q = omega arith
+    go false h false false q = omega arith
 
 left_small : (d : ℕ) → canon.left_level d < 8
 left_small d = go (eqb (canon.binary_level d) 3) (canon.binary_level d) (binary_small (canon.binary_level d) d refl)

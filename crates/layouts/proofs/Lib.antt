@@ -4,4 +4,3 @@ pub mod Phased
 pub mod Packs
 pub mod Says
 pub mod Levels
-pub mod Statements

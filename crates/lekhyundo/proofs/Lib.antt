@@ -1,2 +1,2 @@
-mod Stores
 mod One
+mod Runs

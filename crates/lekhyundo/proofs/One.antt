@@ -10,7 +10,7 @@ use Rattle.answers.proofs.Determined.{one_permitted}
 use Rattle.literals.specs.declared.Answer as literals
 use Rattle.literals.proofs.Answered.{one_answer}
 use Rattle.nodes.proofs.Search as nodes
-use Rattle.constants.specs.declared.Constant.{Constant}
+use Rattle.constants.specs.Answers.{Constant}
 use Rattle.constants.proofs.Answered as constants
 use Rattle.sheets.specs.declared.Checked.{Checked}
 use Rattle.sheets.proofs.Answered.{one_check, one_write}

@@ -1,8 +1,7 @@
 -- C-18 for C: the answer to a source and a constant's number in a lent run of numbers, its rows and its instructions in lent tables.
 use Rattle.std.specs.Prelude.{◌≡◌, List, false, ℕ, length}
 use Rattle.std.proofs.lemmas.List.Edits.{sets}
-use Rattle.constants.specs.declared.Constant.{Constant}
-use Rattle.constants.specs.Answers.{Permitted}
+use Rattle.constants.specs.Answers.{Constant, Permitted}
 use Rattle.lekhyundo.specs.Numbers.{constant_numbers}
 
 -- A constant that document 02 permits (and by constants' `one_answer` it permits one), with what then stands in a lent table of `size` numbers and in a lent

@@ -2,8 +2,7 @@
 use Rattle.std.specs.Prelude.{ℕ, List, [], ◌∷◌, ◌++◌}
 use Rattle.chars.specs.declared.Answer.{Answer}
 use Rattle.literals.specs.declared.Answer as literals
-use Rattle.constants.specs.declared.Constant.{Constant}
-use Rattle.constants.specs.Answers.{answer_of, type_for, value_bits}
+use Rattle.constants.specs.Answers.{Constant, answer_of, type_for, value_bits}
 use Rattle.sheets.specs.declared.Checked.{Checked}
 
 -- "An answer is number, place and a count"

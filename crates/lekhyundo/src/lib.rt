@@ -1,10 +1,9 @@
 // The functions that C and Rust link: each answers in a lent run of numbers, as far as that reaches.
 #![tactic(auto)]
 
-ghost use Rattle.std.specs.Prelude.{◌≡◌, true, false, set, length};
+ghost use Rattle.std.specs.Prelude.{Some, None, Ok, Err, ◌≡◌, true, false, set, length};
 ghost use Rattle.std.proofs.lemmas.List.Edits.{sets};
 ghost use Rattle.tokens.specs.declared.Refusal.{Refusal};
-ghost use Rattle.tokens.specs.declared.Step.TheVariants.{Refused};
 ghost use Rattle.tokens.specs.Tokens.{step_at, step_numbers, answer_of};
 ghost use Rattle.list.specs.Filled.{filled};
 ghost use Rattle.strings.specs.Strings.{answer_of as decode_answer, content_of};
@@ -19,26 +18,35 @@ ghost use Rattle.lekhyundo.specs.Tabled.{TableChecked, TableWritten};
 ghost use Rattle.lekhyundo.specs.Salvaged.{Salvaged};
 ghost use Rattle.lekhyundo.specs.Printed.{Printed};
 
-use chars::Answer;
+use chars::{Answer, refusal};
+use messages::Page;
 use reader::entries;
 use tokens::{Cursor, Step, Token};
 use values::Literal;
 
-fn put(out: &mut [u64], i: usize, v: u64)
-    ensures { out.new ≡ set out.old i v }
+// Numbers, as many as the run has room for.
+fn put(out: &mut [u64], numbers: &[u64])
+    ensures { out.new ≡ sets out.old 0 numbers.now }
 {
-    if i < out.len() {
-        out[i] = v;
+    // kept: store by store, as `sets` says it; `copy_from_slice` of the shorter is no plainer.
+    for (i, n) in numbers.iter().enumerate() {
+        if i < out.len() {
+            out[i] = *n;
+        }
     }
+}
+
+#[tactic(auto, unfolding(crate::specs::Numbers::answer_numbers))]
+fn numbers(a: Answer) -> [u64; 4]
+    ensures { result ≡ answer_numbers a }
+{
+    [a.number, a.start as u64, a.end as u64, a.count as u64]
 }
 
 fn put_answer(out: &mut [u64], a: Answer)
     ensures { out.new ≡ sets out.old 0 (answer_numbers a) }
 {
-    put(out, 0, a.number);
-    put(out, 1, a.start as u64);
-    put(out, 2, a.end as u64);
-    put(out, 3, a.count as u64);
+    put(out, &numbers(a));
 }
 
 // (c) to a source with room for so many tokens: number, start, end, count.
@@ -59,35 +67,30 @@ pub extern "C" fn lekhyundo_token_list(s: &[u8], tokens: &mut [Token], out: &mut
 }
 
 // A step that hands back no token: number, start, end, 0, 0.
+#[tactic(auto, unfolding(tokens::specs::Tokens::step_numbers))]
 fn put_refusal(out: &mut [u64], step: Step)
-    ensures { (why : Refusal) → step ≡ Refused why → out.new ≡ sets out.old 0 (step_numbers step) }
+    ensures { (why : Refusal) → step ≡ Err why → out.new ≡ sets out.old 0 (step_numbers step) }
 {
-    let Step::Refused(why) = step else {
+    let Err(why) = step else {
         return;
     };
-    put(out, 0, why.number);
-    put(out, 1, why.start as u64);
-    put(out, 2, why.end as u64);
-    put(out, 3, 0);
-    put(out, 4, 0);
+    put(out, &[why.number, why.start as u64, why.end as u64, 0, 0]);
 }
 
 // The token at a place: 0, start, end, code, word; or a refusal: number, start, end, 0, 0.
 #[unsafe(no_mangle)]
+#[tactic(auto, unfolding(tokens::specs::Tokens::step_numbers))]
 pub extern "C" fn lekhyundo_step(s: &[u8], at: usize, out: &mut [u64])
     ensures { out.new ≡ sets out.old 0 (step_numbers (step_at s.now at)) }
 {
     let cursor = Cursor { at };
     let step = cursor.step(s);
-    let Step::Taken(word, start, next) = step else {
+    let Ok((word, start, next)) = step else {
         put_refusal(out, step);
         return;
     };
-    put(out, 0, 0);
-    put(out, 1, start as u64);
-    put(out, 2, next.at as u64);
-    put(out, 3, tokens::code_of(word));
-    put(out, 4, word);
+    let code = tokens::code_of(word);
+    put(out, &[0, start as u64, next.at as u64, code, word]);
 }
 
 // (e): a string token decoded into the lent bytes; number, start, end, count.
@@ -102,26 +105,19 @@ pub extern "C" fn lekhyundo_decode(s: &[u8], out: &mut [u8], answer: &mut [u64])
 
 // The value of the token of a code between two places: 0, kind, value, detail; or 7 and zeros for a literal without a value.
 #[unsafe(no_mangle)]
+#[tactic(auto, unfolding(values::specs::Literals::literal_numbers))]
 pub extern "C" fn lekhyundo_literal(s: &[u8], code: u64, start: usize, end: usize, out: &mut [u64])
     ensures { out.new ≡ sets out.old 0 (literal_numbers (literal_at code start end s.now)) }
 {
     match values::literal_at(s, code, start, end) {
-        Literal::Is {
-            kind,
-            value,
-            detail,
-        } => {
-            put(out, 0, 0);
-            put(out, 1, kind);
-            put(out, 2, value);
-            put(out, 3, detail);
-        }
-        Literal::None => {
-            put(out, 0, 7);
-            put(out, 1, 0);
-            put(out, 2, 0);
-            put(out, 3, 0);
-        }
+        Some(
+            Literal {
+                kind,
+                value,
+                detail,
+            },
+        ) => put(out, &[refusal::NONE, kind, value, detail]),
+        None => put(out, &[refusal::VALUELESS, 0, 0, 0]),
     }
 }
 
@@ -154,15 +150,15 @@ pub extern "C" fn lekhyundo_name(s: &[u8], kind: u64, start: usize, end: usize) 
 
 // C-17: the number of one float literal; number, start, end, width, bits.
 #[unsafe(no_mangle)]
+#[tactic(auto, unfolding(crate::specs::Numbers::float_numbers))]
 pub extern "C" fn lekhyundo_float(t: &[u8], answer: &mut [u64])
     ensures { Floated t.now answer.old answer.new }
 {
     let a = literals::float(t);
-    put(answer, 0, a.number);
-    put(answer, 1, a.start as u64);
-    put(answer, 2, a.end as u64);
-    put(answer, 3, a.width);
-    put(answer, 4, a.bits);
+    put(
+        answer,
+        &[a.number, a.start as u64, a.end as u64, a.width, a.bits],
+    );
 }
 
 // C-15: the last leaf of a table whose span holds a byte; number, its span, its index from 0.
@@ -176,6 +172,7 @@ pub extern "C" fn lekhyundo_at(table: &[u64], position: u64, answer: &mut [u64])
 
 // C-18: the value of the constant with a number, from 0, its rows and its instructions in lent tables; number, start, end, count, type, bits.
 #[unsafe(no_mangle)]
+#[tactic(auto, unfolding(crate::specs::Numbers::constant_numbers, crate::specs::Numbers::answer_numbers))]
 pub extern "C" fn lekhyundo_constant(
     s: &[u8],
     number: u64,
@@ -186,22 +183,29 @@ pub extern "C" fn lekhyundo_constant(
     ensures { Evaluated s.now number (length table.old) (length list.old) table.new list.new answer.old answer.new }
 {
     let c = constants::evaluate(s, number, table, list);
-    put_answer(answer, constants::answer(c, s.len()));
-    put(answer, 4, constants::declared_type(c));
-    put(answer, 5, constants::bits(c));
+    let [refusal, start, end, count] = numbers(constants::answer(c, s.len()));
+    let kind = constants::declared_type(c);
+    let bits = constants::bits(c);
+    put(answer, &[refusal, start, end, count, kind, bits]);
 }
 
 // C-21: whether a file's rows and indexes are those of its source, its rows in the lent table; number, start, end, rows, tests.
 #[unsafe(no_mangle)]
+#[tactic(auto, unfolding(crate::specs::Numbers::checked_numbers))]
 pub extern "C" fn lekhyundo_table_check(file: &[u8], table: &mut [u64], answer: &mut [u64])
     ensures { TableChecked file.now (length table.old) table.new answer.old answer.new }
 {
     let a = sheets::check(file, table);
-    put(answer, 0, a.number);
-    put(answer, 1, a.start as u64);
-    put(answer, 2, a.end as u64);
-    put(answer, 3, a.count as u64);
-    put(answer, 4, a.tests as u64);
+    put(
+        answer,
+        &[
+            a.number,
+            a.start as u64,
+            a.end as u64,
+            a.count as u64,
+            a.tests as u64,
+        ],
+    );
 }
 
 // C-21: the file of a source in lent bytes, its rows in the lent table; number, start, end, count.
@@ -220,6 +224,7 @@ pub extern "C" fn lekhyundo_table_write(
 
 // C-23: a broken source salvaged: spaces for what is dropped, the rows and the dropped ranges in lent tables; number, start, end, count, ranges.
 #[unsafe(no_mangle)]
+#[tactic(auto, unfolding(crate::specs::Numbers::salvaged_numbers))]
 pub extern "C" fn lekhyundo_salvage(
     s: &mut [u8],
     table: &mut [u64],
@@ -229,15 +234,21 @@ pub extern "C" fn lekhyundo_salvage(
     ensures { Salvaged s.old (length table.old) (length ranges.old) s.new table.new ranges.new answer.old answer.new }
 {
     let a = salvage::salvage(s, table, ranges);
-    put(answer, 0, a.number);
-    put(answer, 1, a.start as u64);
-    put(answer, 2, a.end as u64);
-    put(answer, 3, a.count as u64);
-    put(answer, 4, a.ranges as u64);
+    put(
+        answer,
+        &[
+            a.number,
+            a.start as u64,
+            a.end as u64,
+            a.count as u64,
+            a.ranges as u64,
+        ],
+    );
 }
 
 // C-20: the print of a source in a lent text, with lent tables for its rows and for what waits to be written; number, start, end, count, tests.
 #[unsafe(no_mangle)]
+#[tactic(auto, unfolding(crate::specs::Numbers::printed_numbers))]
 pub extern "C" fn lekhyundo_print(
     s: &[u8],
     table: &mut [u64],
@@ -248,11 +259,16 @@ pub extern "C" fn lekhyundo_print(
     ensures { Printed s.now (length table.old) (length plan.old) (length text.old) table.new plan.new text.new answer.old answer.new }
 {
     let a = setter::entries::print_tree(s, table, plan, text);
-    put(answer, 0, a.number);
-    put(answer, 1, a.start as u64);
-    put(answer, 2, a.end as u64);
-    put(answer, 3, a.count as u64);
-    put(answer, 4, a.tests as u64);
+    put(
+        answer,
+        &[
+            a.number,
+            a.start as u64,
+            a.end as u64,
+            a.count as u64,
+            a.tests as u64,
+        ],
+    );
 }
 
 // A refusal of (a) to a named source as lines of text: place and message, the line, carets, what could stand there; how many bytes. The room is
@@ -274,5 +290,7 @@ pub extern "C" fn lekhyundo_report(
         end,
         count: needed,
     };
-    messages::report(name, s, a, room, out)
+    let mut page = Page::new(out);
+    messages::report(&mut page, name, s, a, room);
+    page.written().len()
 }

@@ -1,4 +1,5 @@
 -- An f-string's text begins with `f"`.
+use Rattle.std.specs.Prelude.{Some, None, Ok, Err}
 use mathlib.Core.Path.{◌≡◌, refl, sym, ap, subst, ◌∙◌}
 use mathlib.Core.List.{List}
 use mathlib.Core.Bool.{Bool, true, false, ◌&&◌, cond}
@@ -8,10 +9,8 @@ use lib.Dec.{eqb, ltb}
 use lib.ListN.{length}
 use lib.Seq.{slice}
 use Rattle.chars.specs.Chars.{byte_at}
-use Rattle.tokens.specs.declared.Fit.{Fit}
-use Rattle.tokens.specs.declared.Fit.TheVariants.{To, No}
-use Rattle.tokens.specs.declared.Step.{Step}
-use Rattle.tokens.specs.declared.Step.TheVariants.{Taken, Refused}
+use Rattle.tokens.specs.Results.{Fit}
+use Rattle.tokens.specs.Results.{Step}
 use Rattle.tokens.specs.Blanks.{skip_all}
 use Rattle.tokens.specs.Rules.{pair_at, ipv6_at, ipv4_at, two_at, one_at, as_at, hex_at, number_at, quote_at, name_at, taken, refused, or_else, token_at}
 use Rattle.tokens.specs.Tokens.{step_at}
@@ -25,14 +24,14 @@ use Rattle.limits.specs.Within.{quoted}
 
 -- 5 is said of these two bytes alone
 abbrev Paired : List ℕ → ℕ → Step → Type 0
-Paired s i (Taken w a n) = Unit {0}
-Paired s i (Refused r) = r.number ≡ 5 → pair_at s i 102 34 ≡ true
+Paired s i (Ok (w, a, n)) = Unit {0}
+Paired s i (Err r) = r.number ≡ 5 → pair_at s i 102 34 ≡ true
 
 module _ (s : List ℕ) (i : ℕ) where
   or_paired : (f : Fit) (d : Step) → Paired s i d → Paired s i (or_else i f d)
   unfolding or_else taken
-  or_paired (To e w) d k = tt
-  or_paired No d k = k
+  or_paired (Some (e, w)) d k = tt
+  or_paired None d k = k
 
   cond_paired : (b : Bool) (d : Step) → pair_at s i 102 34 ≡ b → Paired s i d → Paired s i (cond b (refused 5 i (i + 2)) d)
   unfolding refused
@@ -62,7 +61,7 @@ step_paired s i = by (ltb (skip_all s i) (length s))
 quote_bytes : (s : List ℕ) (i : ℕ) (x : Token) (j : ℕ) → (source s).look i ≡ found x j → x.word ≡ f_quote → pair_at s x.start 102 34 ≡ true
 quote_bytes s i x j z w = by (seen s i x j z)
   where
-    small : {v a : ℕ} {n : _} → Steps s i (Taken v a n) → v < 90
+    small : {v a : ℕ} {n : _} → Steps s i (Ok (v, a, n)) → v < 90
     small (steps_token h m p u) = u
 
     by : Seen s i x j → pair_at s x.start 102 34 ≡ true

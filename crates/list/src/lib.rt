@@ -8,18 +8,17 @@ ghost use Rattle.list.specs.Filled.{zero_token, filled};
 ghost use Rattle.list.specs.States.{failed, ended, standing, begun, read_by, next_of};
 
 use chars::{Answer, refusal};
-use tokens::{Cursor, Step, Token, Whole};
+use tokens::{Cursor, Step, Token};
 
-// Where the writer stands: its place in the list, and whether tokens are read, from the cursor on, or zero tokens are left to store.
-#[derive(Clone, Copy)]
+// Where the writer stands: its place in the list, and the cursor from which tokens are read, or none where zero tokens are left to store.
+#[derive(Clone, Copy, Debug, PartialEq, Eq)]
 pub struct State {
-    pub reading: bool,
-    pub cursor: Cursor,
+    pub cursor: Option<Cursor>,
     pub place: usize,
     pub answer: Answer,
 }
 
-#[derive(Clone, Copy)]
+#[derive(Clone, Copy, Debug, PartialEq, Eq)]
 pub struct Stored {
     pub token: Token,
     pub state: State,
@@ -30,8 +29,7 @@ fn refuse(s: &[u8], room: usize) -> State
     ensures { result ≡ failed s.now room }
 {
     State {
-        reading: false,
-        cursor: Cursor::new(),
+        cursor: None,
         place: 0,
         answer: tokens::count_tokens(s, room),
     }
@@ -41,10 +39,10 @@ fn refuse(s: &[u8], room: usize) -> State
 fn end(s: &[u8], room: usize, count: usize, step: Step) -> State
     ensures { result ≡ ended s.now room count step }
 {
-    let Step::Refused(r) = step else {
+    let Err(r) = step else {
         return refuse(s, room);
     };
-    if r.number != 11 {
+    if r.number != refusal::ENDS_EARLY {
         return refuse(s, room);
     }
     let answer = Answer {
@@ -54,8 +52,7 @@ fn end(s: &[u8], room: usize, count: usize, step: Step) -> State
         count,
     };
     State {
-        reading: false,
-        cursor: Cursor::new(),
+        cursor: None,
         place: count,
         answer,
     }
@@ -73,8 +70,7 @@ fn stand(s: &[u8], room: usize, cursor: Cursor, place: usize) -> State
             count: 0,
         };
         return State {
-            reading: true,
-            cursor,
+            cursor: Some(cursor),
             place,
             answer,
         };
@@ -87,8 +83,8 @@ fn begin(s: &[u8], room: usize) -> State
     ensures { result ≡ begun s.now room }
 {
     match tokens::check_source(s) {
-        Whole::Fine => stand(s, room, Cursor::new(), 0),
-        Whole::Refused(_) => refuse(s, room),
+        Ok(()) => stand(s, room, Cursor::new(), 0),
+        Err(_) => refuse(s, room),
     }
 }
 
@@ -107,7 +103,7 @@ fn zero() -> Token
 fn later(start: usize, end: usize) -> usize
     ensures { start < end → result ≡ end }
 {
-    if end < start { start } else { end }
+    end.max(start)
 }
 
 // The token at the cursor; behind the last, a zero token.
@@ -116,7 +112,7 @@ fn read(s: &[u8], room: usize, cursor: Cursor, place: usize) -> Stored
     ensures { result ≡ read_by s.now room place (step_at s.now cursor.at) }
 {
     let step = cursor.step(s);
-    let Step::Taken(word, start, after) = step else {
+    let Ok((word, start, after)) = step else {
         return Stored {
             token: zero(),
             state: end(s, room, place, step),
@@ -138,16 +134,14 @@ fn next(s: &[u8], room: usize, state: State) -> Stored
     requires { state.place < room }
     ensures { result ≡ next_of s.now room state }
 {
-    if state.reading {
-        let cursor = state.cursor;
+    if let Some(cursor) = state.cursor {
         return read(s, room, cursor, state.place);
     }
     let answer = state.answer;
     Stored {
         token: zero(),
         state: State {
-            reading: false,
-            cursor: Cursor::new(),
+            cursor: None,
             place: state.place + 1,
             answer,
         },
@@ -160,6 +154,7 @@ pub fn tokens(s: &[u8], list: &mut [Token]) -> Answer
 {
     let n = list.len();
     let mut state = begin(s, n);
+    // kept: no `for`, since the place goes back to the front where the source is refused.
     while state.place < n {
         let next = next(s, n, state);
         list[state.place] = next.token;

@@ -1,4 +1,5 @@
 -- The text of a float's row, by itself, is that float: no row of kind 11 is refused with 7.
+use Rattle.std.specs.Prelude.{Some, None, Ok}
 use mathlib.Core.Path.{◌≡◌, refl, sym, ap, ◌∙◌}
 use Prim.Native.Nat.{ℕ, suc, ◌+◌, ◌-◌, ◌≤◌, ◌<◌, suc-le-suc, zero-le}
 use mathlib.Core.List.{List, [], ◌∷◌}
@@ -15,9 +16,7 @@ use Rattle.chars.specs.Chars.{byte_at, is_blank, is_digit, is_class}
 use Rattle.chars.specs.Texts.{same}
 use Rattle.chars.specs.Runs.{past_run}
 use Rattle.chars.proofs.Runs.{byte_in, inside, outside, past_ge, past_gt}
-use Rattle.tokens.specs.declared.Fit.{Fit}
-use Rattle.tokens.specs.declared.Fit.TheVariants.{To, No}
-use Rattle.tokens.specs.declared.Step.TheVariants.{Taken}
+use Rattle.tokens.specs.Results.{Fit}
 use Rattle.tokens.specs.declared.Cursor.{Cursor}
 use Rattle.tokens.specs.Words.{two_sign, one_sign, two_signs, word_in, code_of}
 use Rattle.tokens.specs.Blanks.{skip_all, skipped}
@@ -25,27 +24,25 @@ use Rattle.tokens.specs.Rules.{when_fit, sign_fit, then_fit, or_else, taken, pai
 use Rattle.tokens.specs.Tokens.{step_at}
 use Rattle.tokens.proofs.Steps.{taken_good}
 use Rattle.numbers.proofs.Choices.{and, and_left, and_right, in_range, not_right}
-use Rattle.values.specs.declared.Literal.{Literal}
 use Rattle.values.specs.Literals.{literal_of}
-use Rattle.literals.specs.declared.Alone.{Alone}
 use Rattle.literals.specs.Answers.{row_for, row_of, width_of, alone_of}
 use Rattle.literals.proofs.Starts.{Numeric, numeric_step, row_number, when_fits, number_starts}
 use Rattle.literals.proofs.Choices.{a_float}
 use Rattle.literals.proofs.Parts.{part_length, byte_part, byte_past, past_part, past_inside}
 
 -- ---- a rule that fits in a part fits in the source
-never : {i j : ℕ} → To i j ≡ No → ⊥
-never h = true≢false (ap (λ (x : Fit). elim x [ To a b ↦ true | No ↦ false ]) h)
+never : {i j : ℕ} → ◌≡◌ {A = Fit} (Some (i, j)) None → ⊥
+never h = true≢false (ap (λ (x : Fit). elim x [ Some (a, b) ↦ true | None ↦ false ]) h)
 
-when_no : (t : Bool) (e w : ℕ) → when_fit t e w ≡ No → t ≡ false
+when_no : (t : Bool) (e w : ℕ) → when_fit t e w ≡ None → t ≡ false
 unfolding when_fit
 when_no true e w h = absurd (never h)
 when_no false e w h = refl
 
-then_no : (f : Fit) (g : ℕ → Fit) → ((e w : ℕ) → f ≡ To e w → g e ≡ No) → then_fit f g ≡ No
+then_no : (f : Fit) (g : ℕ → Fit) → ((e w : ℕ) → f ≡ Some (e, w) → g e ≡ None) → then_fit f g ≡ None
 unfolding then_fit
-then_no (To e w) g h = h e w refl
-then_no No g h = refl
+then_no (Some (e, w)) g h = h e w refl
+then_no None g h = refl
 
 not_both : (a b : Bool) → (a ≡ true → b ≡ true → ⊥) → (a && b) ≡ false
 not_both true true f = absurd (f refl refl)
@@ -53,19 +50,19 @@ not_both true false f = refl
 not_both false b f = refl
 
 -- an address's dotted end only lengthens it
-no_colons : (s : List ℕ) (at : ℕ) → ipv6_at s at ≡ No → colons_at s at ≡ No
+no_colons : (s : List ℕ) (at : ℕ) → ipv6_at s at ≡ None → colons_at s at ≡ None
 unfolding ipv6_at then_fit or_to
-no_colons s at = go (colons_at s at) λ e. cond (decimal_group s e) (three_at s e) No
+no_colons s at = go (colons_at s at) λ e. cond (decimal_group s e) (three_at s e) None
   where
-    longer : (f : Fit) (end : ℕ) → or_to f end ≡ No → ⊥
-    longer (To e w) end h = never h
-    longer No end h = never h
+    longer : (f : Fit) (end : ℕ) → or_to f end ≡ None → ⊥
+    longer (Some (e, w)) end h = never h
+    longer None end h = never h
 
-    go : (f : Fit) (g : ℕ → Fit) → then_fit f (λ e. or_to (g e) e) ≡ No → f ≡ No
-    go (To e w) g h = absurd (longer (g e) e h)
-    go No g h = refl
+    go : (f : Fit) (g : ℕ → Fit) → then_fit f (λ e. or_to (g e) e) ≡ None → f ≡ None
+    go (Some (e, w)) g h = absurd (longer (g e) e h)
+    go None g h = refl
 
-three : (s : List ℕ) (a : ℕ) {i j k : ℕ} → period_at s a ≡ To i 2 → period_at s i ≡ To j 2 → period_at s j ≡ To k 2 → ipv4_at s a ≡ To (past_run (is_class Digit) s k) 2
+three : (s : List ℕ) (a : ℕ) {i j k : ℕ} → period_at s a ≡ Some (i, 2) → period_at s i ≡ Some (j, 2) → period_at s j ≡ Some (k, 2) → ipv4_at s a ≡ Some (past_run (is_class Digit) s k, 2)
 unfolding ipv4_at then_fit
 three s a f g h = rw (f, g, h)
 
@@ -77,7 +74,7 @@ two_last a = simp and_false
     and_false true = refl
     and_false false = refl
 
-unsigned : (w e : ℕ) → sign_fit w e ≡ No → w ≡ 0
+unsigned : (w e : ℕ) → sign_fit w e ≡ None → w ≡ 0
 unfolding sign_fit
 unsigned w e h = eqb-true w 0 (off (eqb w 0) (when_no (not (eqb w 0)) e w h))
   where
@@ -85,14 +82,14 @@ unsigned w e h = eqb-true w 0 (off (eqb w 0) (when_no (not (eqb w 0)) e w h))
     off true h = refl
     off false h = absurd (true≢false h)
 
-no_sign : {w : ℕ} (e : ℕ) → w ≡ 0 → sign_fit w e ≡ No
+no_sign : {w : ℕ} (e : ℕ) → w ≡ 0 → sign_fit w e ≡ None
 unfolding sign_fit when_fit
 no_sign e h = rw h
 
 form : (t : List ℕ) (fr : Bool) → fraction_at t (past_run (is_class Figure) t 0) ≡ fr → is_digit (byte_at t 0) ≡ true → {n : ℕ}
-    → past_run (is_class NamePart) t (cond fr (past_run (is_class Figure) t (past_run (is_class Figure) t 0 + 1)) (past_run (is_class Figure) t 0)) ≡ n → number_at t 0 ≡ To n (cond fr 8 7)
+    → past_run (is_class NamePart) t (cond fr (past_run (is_class Figure) t (past_run (is_class Figure) t 0 + 1)) (past_run (is_class Figure) t 0)) ≡ n → number_at t 0 ≡ Some (n, cond fr 8 7)
 unfolding number_at when_fit
-form t fr f d g = rw (d, f) (ap (λ (m : ℕ). To m (cond fr 8 7)) g)
+form t fr f d g = rw (d, f) (ap (λ (m : ℕ). Some (m, cond fr 8 7)) g)
 
 skip_none : (l : List ℕ) → is_digit (byte_at l 0) ≡ true → skipped false l ≡ 0
 unfolding skipped
@@ -139,7 +136,7 @@ module _ (s : List ℕ) (a e : ℕ) (fits : e ≤ length s) (some : a < e) where
       let g = past_inside p s a e fits i (inside (slice a e s) (past_run p (slice a e s) i) refl h small) in
       (g, sym (ap (byte_at s) g) ∙ (there (past_run p (slice a e s) i) small h).1)
 
-  colons_no : colons_at s a ≡ No → colons_at (slice a e s) 0 ≡ No
+  colons_no : colons_at s a ≡ None → colons_at (slice a e s) 0 ≡ None
   unfolding colons_at when_fit
   colons_no h = rw (not_both (eqb (byte_at (slice a e s) A) 58) (eqb (byte_at (slice a e s) B) 58) go)
     where
@@ -161,11 +158,11 @@ module _ (s : List ℕ) (a e : ℕ) (fits : e ≤ length s) (some : a < e) where
           let r : byte_at s (past_run (is_class HexDigit) s (past_run (is_class HexDigit) s a + 1)) ≡ 58 = ap (λ (j : ℕ). byte_at s (past_run (is_class HexDigit) s j)) (sym (next A (p.0 ∙ w))) ∙ q.1 in
           true≢false (sym (and (eq-eqb _ 58 l) (eq-eqb _ 58 r)) ∙ when_no _ _ 1 h)
 
-  ipv6_no : ipv6_at s a ≡ No → ipv6_at (slice a e s) 0 ≡ No
+  ipv6_no : ipv6_at s a ≡ None → ipv6_at (slice a e s) 0 ≡ None
   unfolding ipv6_at then_fit
   ipv6_no h = rw (colons_no (no_colons s a h))
 
-  period_up : (i : ℕ) {m w : ℕ} → period_at (slice a e s) i ≡ To m w → period_at s (a + i) ≡ To (a + m) 2
+  period_up : (i : ℕ) {m w : ℕ} → period_at (slice a e s) i ≡ Some (m, w) → period_at s (a + i) ≡ Some (a + m, 2)
   unfolding period_at
   period_up i {m} h =
       let E = past_run (is_class Digit) (slice a e s) i in
@@ -174,13 +171,13 @@ module _ (s : List ℕ) (a e : ℕ) (fits : e ≤ length s) (some : a < e) where
       let r = ran (is_class Digit) i (lit< tt) (eqb-true (byte_at (slice a e s) E) 46 (and_right (is_digit (byte_at (slice a e s) i)) (eqb (byte_at (slice a e s) E) 46) k.0)) in
       fits_so (and d.1 (eq-eqb _ 46 r.1)) (sum a E m r.0 k.1.0)
     where
-      fits_so : {t : Bool} {x y : ℕ} → t ≡ true → x ≡ y → when_fit t x 2 ≡ To y 2
+      fits_so : {t : Bool} {x y : ℕ} → t ≡ true → x ≡ y → when_fit t x 2 ≡ Some (y, 2)
       fits_so f g = unfold when_fit in rw (f, g)
 
       sum : (a E m : ℕ) {W : ℕ} → a + E ≡ W → E + 1 ≡ m → W + 1 ≡ a + m
       sum a E m f g = omega arith
 
-  ipv4_no : ipv4_at s a ≡ No → ipv4_at (slice a e s) 0 ≡ No
+  ipv4_no : ipv4_at s a ≡ None → ipv4_at (slice a e s) 0 ≡ None
   ipv4_no h =
       unfold ipv4_at in then_no (period_at (slice a e s) 0) _ λ i w f. then_no (period_at (slice a e s) i) _ λ j v g. then_no (period_at (slice a e s) j) _ λ k u l.
       absurd (never (sym (three s a (sym (ap (period_at s) front) ∙ period_up 0 f) (period_up i g) (period_up j l)) ∙ h))
@@ -188,18 +185,18 @@ module _ (s : List ℕ) (a e : ℕ) (fits : e ≤ length s) (some : a < e) where
   first_byte : byte_at (slice a e s) 0 ≡ byte_at s a
   first_byte = byte_part s a e fits 0 (le_trans (le_of_eq (ap suc front)) some) ∙ ap (byte_at s) front
 
-  two_no : two_at s a ≡ No → two_at (slice a e s) 0 ≡ No
+  two_no : two_at s a ≡ None → two_at (slice a e s) 0 ≡ None
   unfolding two_at
   two_no h = no_sign 2 (ap (λ (b : ℕ). two_sign b (byte_at (slice a e s) 1)) first_byte ∙ elim (dec_lt (a + 1) e) [
     | yes k ↦ ap (two_sign (byte_at s a)) (byte_part s a e fits 1 k) ∙ unsigned (two_sign (byte_at s a) (byte_at s (a + 1))) (a + 2) h
     | no k ↦ ap (two_sign (byte_at s a)) (byte_past s a e fits 1 (omega (arith, k))) ∙ two_last (byte_at s a)
   ])
 
-  one_no : one_at s a ≡ No → one_at (slice a e s) 0 ≡ No
+  one_no : one_at s a ≡ None → one_at (slice a e s) 0 ≡ None
   unfolding one_at
   one_no h = no_sign 1 (ap one_sign first_byte ∙ unsigned (one_sign (byte_at s a)) (a + 1) h)
 
-  hex_no : hex_at s a ≡ No → hex_at (slice a e s) 0 ≡ No
+  hex_no : hex_at s a ≡ None → hex_at (slice a e s) 0 ≡ None
   unfolding hex_at pair_at when_fit
   hex_no h = rw (not_both (eqb (byte_at (slice a e s) 0) 48) (eqb (byte_at (slice a e s) 1) 120) go)
     where
@@ -213,7 +210,7 @@ module _ (s : List ℕ) (a e : ℕ) (fits : e ≤ length s) (some : a < e) where
     begins : is_digit (byte_at (slice a e s) 0) ≡ true
     begins = ap is_digit first_byte ∙ digit
 
-    as_no : as_at (slice a e s) 0 ≡ No
+    as_no : as_at (slice a e s) 0 ≡ None
     unfolding as_at pair_at when_fit
     as_no = rw (ne_eqb (byte_at (slice a e s) 0) 65 λ g. omega (arith, in_range 48 57 (byte_at (slice a e s) 0) begins, g))
 
@@ -256,14 +253,14 @@ module _ (s : List ℕ) (a e : ℕ) (fits : e ≤ length s) (some : a < e) where
         left : (a n e : ℕ) → a + n ≡ e → n ≡ e - a
         left a n e h = omega arith
 
-    number_is : {w : ℕ} → number_at s a ≡ To e w → number_at (slice a e s) 0 ≡ To (length (slice a e s)) w
+    number_is : {w : ℕ} → number_at s a ≡ Some (e, w) → number_at (slice a e s) 0 ≡ Some (length (slice a e s), w)
     unfolding number_at W U
     number_is h = go (fraction_at s W) refl (when_fits (is_digit (byte_at s a)) _ _ h).1
       where
-        go : (fr : Bool) → fraction_at s W ≡ fr → {w : ℕ} → (past_run (is_class NamePart) s (cond fr (past_run (is_class Figure) s (W + 1)) W) ≡ e) × (cond fr 8 7 ≡ w) → number_at (slice a e s) 0 ≡ To (length (slice a e s)) w
+        go : (fr : Bool) → fraction_at s W ≡ fr → {w : ℕ} → (past_run (is_class NamePart) s (cond fr (past_run (is_class Figure) s (W + 1)) W) ≡ e) × (cond fr 8 7 ≡ w) → number_at (slice a e s) 0 ≡ Some (length (slice a e s), w)
         go false f k =
             let w : W ≤ e = le_trans (past_ge (is_class NamePart) s W) (le_of_eq k.0) in
-            form (slice a e s) false (no_fraction w f) begins (to_end W U (whole w) w k.0) ∙ ap (To (length (slice a e s))) k.1
+            form (slice a e s) false (no_fraction w f) begins (to_end W U (whole w) w k.0) ∙ ap (λ (z : ℕ). Some (length (slice a e s), z)) k.1
         go true f k =
             let E = past_run (is_class Figure) s (W + 1) in
             let l : E ≤ e = le_trans (past_ge (is_class NamePart) s E) (le_of_eq k.0) in
@@ -271,7 +268,7 @@ module _ (s : List ℕ) (a e : ℕ) (fits : e ≤ length s) (some : a < e) where
             let w : W ≤ e = omega (arith, l, m) in
             let p : a + past_run (is_class Figure) (slice a e s) (U + 1) ≡ E =
             past_part (is_class Figure) s a e fits (U + 1) (omega (arith, behind w, l, m)) (le_trans (le_of_eq (ap (past_run (is_class Figure) s) (behind w))) l) ∙ ap (past_run (is_class Figure) s) (behind w) in
-            form (slice a e s) true (a_fraction w (omega (arith, l, m)) f) begins (to_end E (past_run (is_class Figure) (slice a e s) (U + 1)) p l k.0) ∙ ap (To (length (slice a e s))) k.1
+            form (slice a e s) true (a_fraction w (omega (arith, l, m)) f) begins (to_end E (past_run (is_class Figure) (slice a e s) (U + 1)) p l k.0) ∙ ap (λ (z : ℕ). Some (length (slice a e s), z)) k.1
           where
             figure : fraction_at s W ≡ true → is_class Figure (byte_at s (W + 1)) ≡ true
             figure f = unfold fraction_at is_class in rw (and_right (eqb (byte_at s W) 46) (is_digit (byte_at s (W + 1))) f)
@@ -308,16 +305,16 @@ module _ (s : List ℕ) {w a e : ℕ} (fits : e ≤ length s) (some : a < e) (n 
   row_is = rw (step_is, eq-eqb (length text) (length text) refl) refl
 
 -- where the lexer finds a float in a source, its text alone is the same float
-pub row_alone : (s : List ℕ) (at : ℕ) {w a : ℕ} {n : Cursor} → step_at s at ≡ Taken w a n → {v d : ℕ}
-    → literal_of (code_of w) (slice a n.at s) ≡ Literal.Is 11 v d → row_of (slice a n.at s) ≡ Literal.Is 11 v d
+pub row_alone : (s : List ℕ) (at : ℕ) {w a : ℕ} {n : Cursor} → step_at s at ≡ Ok (w, a, n) → {v d : ℕ}
+    → literal_of (code_of w) (slice a n.at s) ≡ Some (record { kind = 11; value = v; detail = d }) → row_of (slice a n.at s) ≡ Some (record { kind = 11; value = v; detail = d })
 unfolding text
 row_alone s at {w} {a} {n} h e =
     let g = taken_good s at h in
     row_is s g.2 g.1 (numeric_step (row_number (code_of w) (slice a n.at s) e) s at h) ∙ e
 
 -- so a row of kind 11 has a number, of the width that its detail names, or too many digits
-pub row_has_number : (s : List ℕ) → length s ≤ 65535 → (at : ℕ) {w a : ℕ} {n : Cursor} → step_at s at ≡ Taken w a n → {v d : ℕ}
-    → literal_of (code_of w) (slice a n.at s) ≡ Literal.Is 11 v d → Alone.Float (width_of d) ≡ alone_of (slice a n.at s)
+pub row_has_number : (s : List ℕ) → length s ≤ 65535 → (at : ℕ) {w a : ℕ} {n : Cursor} → step_at s at ≡ Ok (w, a, n) → {v d : ℕ}
+    → literal_of (code_of w) (slice a n.at s) ≡ Some (record { kind = 11; value = v; detail = d }) → Some (width_of d) ≡ alone_of (slice a n.at s)
 row_has_number s few at {w} {a} {n} h e =
     let g = taken_good s at h in
     let l : length (slice a n.at s) ≡ n.at - a = part_length s a n.at g.2 in

@@ -1,38 +1,37 @@
 -- C-17: the answer to the bytes of one float literal.
-use Rattle.std.specs.Prelude.{◌≡◌, ℕ, List, Bool, true, false, ◌&&◌, cond, length, eqb, ltb}
+use Rattle.std.specs.Prelude.{Some, None, Ok, Err, ◌≡◌, ℕ, List, Bool, true, false, ◌&&◌, cond, length, eqb, ltb}
 use Rattle.rows.specs.Kinds as kinds
-use Rattle.tokens.specs.declared.Step.{Step}
-use Rattle.tokens.specs.declared.Step.TheVariants.{Taken, Refused}
+use Rattle.tokens.specs.Results.{Step}
 use Rattle.tokens.specs.Tokens.{step_at}
 use Rattle.tokens.specs.Words.{code_of}
-use Rattle.values.specs.declared.Literal.{Literal}
+use Rattle.values.specs.Results.{Worth}
 use Rattle.values.specs.Literals.{literal_of}
 use Rattle.floats.specs.declared.Width.{Width}
 use Rattle.floats.specs.Nearest.{Nearest, format_of}
-use Rattle.literals.specs.declared.Alone.{Alone}
+use Rattle.literals.specs.Results.{Alone}
 use Rattle.literals.specs.declared.Answer.{Answer}
 use Rattle.literals.specs.Decimals.{numerator, denominator, few}
 
 -- the row of a token that is the whole text
-unfoldable pub row_for : List ℕ → Step → Literal
-row_for text (Taken w a next) = cond (eqb a 0 && eqb next.at (length text)) (literal_of (code_of w) text) Literal.None
-row_for text (Refused r) = Literal.None
+unfoldable pub row_for : List ℕ → Step → Worth
+row_for text (Ok (w, a, next)) = cond (eqb a 0 && eqb next.at (length text)) (literal_of (code_of w) text) None
+row_for text (Err r) = None
 
 -- "the bytes of one float literal": the lexer's token at their front is all of them
-unfoldable pub row_of : List ℕ → Literal
+unfoldable pub row_of : List ℕ → Worth
 row_of text = row_for text (step_at text 0)
 
 -- "11 float (detail 0, 9 f32, 10 f64)": "An `f32` suffix gives the 32 bits"
 unfoldable pub width_of : ℕ → Width
 width_of detail = cond (eqb detail 9) Width.F32 Width.F64
 
-unfoldable pub float_row : Literal → Alone
-float_row (Literal.Is kind value detail) = cond (eqb kind kinds.FLOAT) (Alone.Float (width_of detail)) Alone.None
-float_row Literal.None = Alone.None
+unfoldable pub float_row : Worth → Alone
+float_row (Some x) = cond (eqb x.kind kinds.FLOAT) (Some (width_of x.detail)) None
+float_row None = None
 
 -- one float with a value, of a width; no source is longer than 65,535 bytes, and no literal
 unfoldable pub alone_of : List ℕ → Alone
-alone_of text = cond (ltb 65535 (length text)) Alone.None (float_row (row_of text))
+alone_of text = cond (ltb 65535 (length text)) None (float_row (row_of text))
 
 -- how many bits a width has
 abbrev pub size_of : Width → ℕ
@@ -58,8 +57,8 @@ Counted false w text a = a ≡ refusal 14 text
 
 -- "7 where the bytes aren't one float with a value, before new 14"
 abbrev pub Says : Alone → List ℕ → Answer → Type 0
-Says (Alone.Float w) text a = Counted (few text) w text a
-Says Alone.None text a = a ≡ refusal 7 text
+Says (Some w) text a = Counted (few text) w text a
+Says None text a = a ≡ refusal 7 text
 
 -- The answers to these bytes: there is one, and only one (proofs/Answered.antt: `an_answer`, `one_answer`).
 unfoldable pub Permitted : List ℕ → Answer → Type 0

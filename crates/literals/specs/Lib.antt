@@ -1,3 +1,4 @@
+pub mod Results
 pub mod Decimals
 pub mod Answers
 pub mod Steps

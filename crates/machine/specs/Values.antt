@@ -1,5 +1,5 @@
 -- What a literal and an operator give. Where the types of a checked tree hold, the last clause of each is never met.
-use Rattle.std.specs.Prelude.{[], ◌∷◌, Bool, false, not, ◌&&◌, ◌||◌, cond, ℕ, ◌^◌, eqb, get_or, neg_ℤ, ◌+ℤ◌, ◌-ℤ◌, ◌*ℤ◌, Float}
+use Rattle.std.specs.Prelude.{[], ◌∷◌, Bool, false, not, ◌&&◌, ◌||◌, cond, ℕ, ◌^◌, eqb, get_or, neg_ℤ, ◌+ℤ◌, ◌-ℤ◌, ◌*ℤ◌, Float, Option, Some, None}
 use Rattle.std.specs.Int.Signed.{lt_z}
 use Rattle.std.specs.Float.Ieee as Ieee
 use Rattle.std.specs.Float.{binary64}
@@ -7,26 +7,23 @@ use Rattle.std.specs.Float.Ieee.{of_bits, to_bits, nan_bits, is_nan}
 use Rattle.rows.specs.Kinds as kinds
 use Rattle.wholes.specs.Wholes.{span, lowest, number, quotient_of, remainder_of}
 use Rattle.wholes.specs.declared.Integer.{Integer}
-use Rattle.wholes.specs.declared.Part.{Part}
 use Rattle.machine.specs.declared.Value.{Value}
-use Rattle.machine.specs.declared.Step.{Step}
 use Rattle.machine.specs.declared.Op.{Op}
 use Rattle.machine.specs.declared.Logic.{Logic}
 use Rattle.machine.specs.declared.Order.{Order}
 use Rattle.machine.specs.declared.Sum.{Sum}
-use Rattle.machine.specs.declared.Named.{Named}
 
 -- document 01's details of row 20, and of row 10
-unfoldable pub op_of : ℕ → Op
+unfoldable pub op_of : ℕ → Option Op
 op_of n =
-    get_or (Op.Other ∷ Op.Joins Logic.Or ∷ Op.Joins Logic.And
-    ∷ Op.Compares Order.Equal ∷ Op.Compares Order.Unequal ∷ Op.Compares Order.Less ∷ Op.Compares Order.AtMost ∷ Op.Compares Order.More ∷ Op.Compares Order.AtLeast
-    ∷ Op.Counts Sum.Plus ∷ Op.Counts Sum.Minus ∷ Op.Counts Sum.Times ∷ Op.Counts Sum.Over ∷ Op.Counts Sum.Rest ∷ []) n Op.Other
+    get_or (None ∷ Some (Op.Joins Logic.Or) ∷ Some (Op.Joins Logic.And)
+    ∷ Some (Op.Compares Order.Equal) ∷ Some (Op.Compares Order.Unequal) ∷ Some (Op.Compares Order.Less) ∷ Some (Op.Compares Order.AtMost) ∷ Some (Op.Compares Order.More) ∷ Some (Op.Compares Order.AtLeast)
+    ∷ Some (Op.Counts Sum.Plus) ∷ Some (Op.Counts Sum.Minus) ∷ Some (Op.Counts Sum.Times) ∷ Some (Op.Counts Sum.Over) ∷ Some (Op.Counts Sum.Rest) ∷ []) n None
 
-unfoldable pub integer_of : ℕ → Named
+unfoldable pub integer_of : ℕ → Option Integer
 integer_of n =
-    get_or (Named.Other ∷ Named.Of Integer.I8 ∷ Named.Of Integer.I16 ∷ Named.Of Integer.I32 ∷ Named.Of Integer.I64
-    ∷ Named.Of Integer.U8 ∷ Named.Of Integer.U16 ∷ Named.Of Integer.U32 ∷ Named.Of Integer.U64 ∷ []) n Named.Other
+    get_or (None ∷ Some Integer.I8 ∷ Some Integer.I16 ∷ Some Integer.I32 ∷ Some Integer.I64
+    ∷ Some Integer.U8 ∷ Some Integer.U16 ∷ Some Integer.U32 ∷ Some Integer.U64 ∷ []) n None
 
 unfoldable pub literal_value : ℕ → ℕ → Value
 literal_value kind v =
@@ -34,9 +31,9 @@ literal_value kind v =
     (cond (eqb kind kinds.FLOAT) (cond (nan_bits binary64 v) (Value.Truth false) (Value.Float (of_bits binary64 v)))
     (Value.Truth (eqb v 1)))
 
-unfoldable pub negated_of : Named → ℕ → Value
-negated_of (Named.Of t) a = Value.Whole (lowest (span t) (neg_ℤ (number t a)))
-negated_of Named.Other a = Value.Whole a
+unfoldable pub negated_of : Option Integer → ℕ → Value
+negated_of (Some t) a = Value.Whole (lowest (span t) (neg_ℤ (number t a)))
+negated_of None a = Value.Whole a
 
 unfoldable pub single_of : ℕ → ℕ → Value → Value
 unfolding negated_of
@@ -44,16 +41,16 @@ single_of kind ty (Value.Whole a) = negated_of (integer_of ty) a
 single_of kind ty (Value.Float a) = Value.Float (Ieee.neg a)
 single_of kind ty (Value.Truth a) = Value.Truth (not a)
 
-unfoldable pub part_of : Part → Step
-part_of (Part.Of n) = Step.To (Value.Whole n)
-part_of Part.None = Step.Zero
+unfoldable pub part_of : Option ℕ → Option Value
+part_of (Some n) = Some (Value.Whole n)
+part_of None = None
 
 -- "Integer sums, differences and products wrap at the declared width"
-unfoldable pub whole_of : Sum → Integer → ℕ → ℕ → Step
+unfoldable pub whole_of : Sum → Integer → ℕ → ℕ → Option Value
 unfolding part_of
-whole_of Sum.Plus t a b = Step.To (Value.Whole (lowest (span t) (number t a +ℤ number t b)))
-whole_of Sum.Minus t a b = Step.To (Value.Whole (lowest (span t) (number t a -ℤ number t b)))
-whole_of Sum.Times t a b = Step.To (Value.Whole (lowest (span t) (number t a *ℤ number t b)))
+whole_of Sum.Plus t a b = Some (Value.Whole (lowest (span t) (number t a +ℤ number t b)))
+whole_of Sum.Minus t a b = Some (Value.Whole (lowest (span t) (number t a -ℤ number t b)))
+whole_of Sum.Times t a b = Some (Value.Whole (lowest (span t) (number t a *ℤ number t b)))
 whole_of Sum.Over t a b = part_of (quotient_of t a b)
 whole_of Sum.Rest t a b = part_of (remainder_of t a b)
 
@@ -78,49 +75,49 @@ unfoldable pub join_of : Logic → Bool → Bool → Bool
 join_of Logic.Or a b = a || b
 join_of Logic.And a b = a && b
 
-unfoldable pub wholes_of : Sum → Named → ℕ → ℕ → Step
+unfoldable pub wholes_of : Sum → Option Integer → ℕ → ℕ → Option Value
 unfolding whole_of
-wholes_of o (Named.Of t) a b = whole_of o t a b
-wholes_of o Named.Other a b = Step.To (Value.Truth false)
+wholes_of o (Some t) a b = whole_of o t a b
+wholes_of o None a b = Some (Value.Truth false)
 
-unfoldable pub numbers_of : Op → Named → ℕ → ℕ → Step
+unfoldable pub numbers_of : Option Op → Option Integer → ℕ → ℕ → Option Value
 unfolding wholes_of order_of
-numbers_of (Op.Joins o) t a b = Step.To (Value.Truth false)
-numbers_of (Op.Compares o) t a b = Step.To (Value.Truth (order_of o a b))
-numbers_of (Op.Counts o) t a b = wholes_of o t a b
-numbers_of Op.Other t a b = Step.To (Value.Truth false)
+numbers_of (Some (Op.Joins o)) t a b = Some (Value.Truth false)
+numbers_of (Some (Op.Compares o)) t a b = Some (Value.Truth (order_of o a b))
+numbers_of (Some (Op.Counts o)) t a b = wholes_of o t a b
+numbers_of None t a b = Some (Value.Truth false)
 
-unfoldable pub floats_of : Op → Float → Float → Value
+unfoldable pub floats_of : Option Op → Float → Float → Value
 unfolding float_of
-floats_of (Op.Joins o) a b = Value.Truth false
-floats_of (Op.Compares o) a b = Value.Truth false
-floats_of (Op.Counts o) a b = Value.Float (float_of o a b)
-floats_of Op.Other a b = Value.Truth false
+floats_of (Some (Op.Joins o)) a b = Value.Truth false
+floats_of (Some (Op.Compares o)) a b = Value.Truth false
+floats_of (Some (Op.Counts o)) a b = Value.Float (float_of o a b)
+floats_of None a b = Value.Truth false
 
-unfoldable pub truths_of : Op → Bool → Bool → Value
+unfoldable pub truths_of : Option Op → Bool → Bool → Value
 unfolding join_of
-truths_of (Op.Joins o) a b = Value.Truth (join_of o a b)
-truths_of (Op.Compares o) a b = Value.Truth false
-truths_of (Op.Counts o) a b = Value.Truth false
-truths_of Op.Other a b = Value.Truth false
+truths_of (Some (Op.Joins o)) a b = Value.Truth (join_of o a b)
+truths_of (Some (Op.Compares o)) a b = Value.Truth false
+truths_of (Some (Op.Counts o)) a b = Value.Truth false
+truths_of None a b = Value.Truth false
 
-unfoldable pub double_of : ℕ → ℕ → Value → Value → Step
+unfoldable pub double_of : ℕ → ℕ → Value → Value → Option Value
 unfolding numbers_of floats_of truths_of
 double_of ty what (Value.Whole a) (Value.Whole b) = numbers_of (op_of what) (integer_of ty) a b
-double_of ty what (Value.Whole a) (Value.Float b) = Step.To (Value.Whole a)
-double_of ty what (Value.Whole a) (Value.Truth b) = Step.To (Value.Whole a)
-double_of ty what (Value.Float a) (Value.Whole b) = Step.To (Value.Float a)
-double_of ty what (Value.Float a) (Value.Float b) = Step.To (floats_of (op_of what) a b)
-double_of ty what (Value.Float a) (Value.Truth b) = Step.To (Value.Float a)
-double_of ty what (Value.Truth a) (Value.Whole b) = Step.To (Value.Truth a)
-double_of ty what (Value.Truth a) (Value.Float b) = Step.To (Value.Truth a)
-double_of ty what (Value.Truth a) (Value.Truth b) = Step.To (truths_of (op_of what) a b)
+double_of ty what (Value.Whole a) (Value.Float b) = Some (Value.Whole a)
+double_of ty what (Value.Whole a) (Value.Truth b) = Some (Value.Whole a)
+double_of ty what (Value.Float a) (Value.Whole b) = Some (Value.Float a)
+double_of ty what (Value.Float a) (Value.Float b) = Some (floats_of (op_of what) a b)
+double_of ty what (Value.Float a) (Value.Truth b) = Some (Value.Float a)
+double_of ty what (Value.Truth a) (Value.Whole b) = Some (Value.Truth a)
+double_of ty what (Value.Truth a) (Value.Float b) = Some (Value.Truth a)
+double_of ty what (Value.Truth a) (Value.Truth b) = Some (truths_of (op_of what) a b)
 
 -- ---- a value in 64 bits: a whole number with its sign drawn out, a float's own, one pattern for every NaN, 1 for `true`
 
-unfoldable pub extended_of : Named → ℕ → ℕ
-extended_of (Named.Of t) a = lowest (2 ^ 64) (number t a)
-extended_of Named.Other a = a
+unfoldable pub extended_of : Option Integer → ℕ → ℕ
+extended_of (Some t) a = lowest (2 ^ 64) (number t a)
+extended_of None a = a
 
 abbrev pub nan : ℕ
 nan = 9221120237041090560

@@ -1,29 +1,22 @@
-// The constant's stack machine. An instruction is five numbers: kind, type, value, start, end, as its row has them; a binary one has its operator for a value.
+// The constant's stack machine, and the list of instructions that it runs.
 #![tactic(auto)]
 
-ghost use Rattle.std.specs.Prelude.{◌≡◌, ◌<◌, length};
-ghost use Rattle.std.specs.Float.Ieee as Ieee;
-ghost use Rattle.std.specs.Float.{binary64};
-ghost use Rattle.machine.specs.Values.{op_of, integer_of, literal_value, single_of, double_of, whole_of, part_of, order_of, float_of, join_of, numbers_of, floats_of, truths_of, extended_of, float_bits, bits_of};
-ghost use Rattle.machine.specs.Machine.{ran_of};
+ghost use Rattle.std.specs.Prelude.{◌≡◌, ◌+◌, ◌*◌, ◌<◌, ◌≤◌, List, [], ◌∷◌, length, reverse, take, Ok, Err, OnOk, OnErr, IfErr, IfSome, IfNone};
+ghost use Rattle.machine.specs.declared.Value.{Value};
+ghost use Rattle.machine.specs.Values.{op_of, integer_of, literal_value, single_of, double_of, whole_of, order_of, float_of, join_of, numbers_of, floats_of, truths_of, extended_of, float_bits, bits_of};
+ghost use Rattle.machine.specs.Machine.{wide, instr_at, step_of, ended, ran_of};
 
 use rows::kind;
-use wholes::{Integer, Part};
+use std::marker::Model;
+use wholes::Integer;
 
-// The numbers of an instruction: kind, type, value, start, end.
+// An instruction's numbers in the list: kind, type, value, start, end.
 pub const WIDTH: usize = 5;
-
-const TYPE: usize = 1;
-
-const VALUE: usize = 2;
-
-const START: usize = 3;
-
-const END: usize = 4;
 
 // As many instructions are run at most; no value is on the stack without one.
 pub const MOST: usize = 1024;
 
+// kept: a type is a number and no enum, as the list, document 01's rows and the C interface have it.
 // The types of a constant: an integer's is the detail of its row (1 to 8, i8 to u64), a float's too, a bool's is its row's kind.
 pub const F64: u64 = 10;
 
@@ -32,8 +25,7 @@ pub const BOOL: u64 = 12;
 // The bits of infinity; with the sign's bit left out, a NaN's are above.
 const INFINITY: u64 = 9218868437227405312;
 
-// 2^63.
-const SIGN: u64 = 9223372036854775808;
+const SIGN: u64 = 1 << 63;
 
 // What is shown for a NaN, whose bits the language leaves open.
 pub const NAN: u64 = 9221120237041090560;
@@ -45,29 +37,32 @@ pub enum Value {
     Truth(bool),
 }
 
-// What an operator of two operands gives: a value, or that the divisor is zero.
-#[derive(Clone, Copy)]
-pub enum Step {
-    To(Value),
-    Zero,
-}
-
-#[derive(Clone, Copy)]
-pub enum Ran {
-    Done(Value),
-    // A zero divisor, at the row of this start and end.
-    Zero(u64, u64),
+// Why a list gives no value.
+#[derive(Clone, Copy, Debug, PartialEq, Eq)]
+pub enum Stop {
+    // An integer divisor is zero, at the row of this start and end.
+    ZeroDivisor(u64, u64),
     // No list that a translation makes.
     Broken,
 }
 
-#[derive(Clone, Copy)]
+// An instruction, as its row has its numbers; a binary one has its operator for a value.
+#[derive(Clone, Copy, Debug, PartialEq, Eq)]
+pub struct Instruction {
+    pub kind: u64,
+    pub ty: u64,
+    pub value: u64,
+    pub start: u64,
+    pub end: u64,
+}
+
+#[derive(Clone, Copy, Debug, PartialEq, Eq)]
 pub enum Logic {
     Or,
     And,
 }
 
-#[derive(Clone, Copy)]
+#[derive(Clone, Copy, Debug, PartialEq, Eq)]
 pub enum Order {
     Equal,
     Unequal,
@@ -77,7 +72,7 @@ pub enum Order {
     AtLeast,
 }
 
-#[derive(Clone, Copy)]
+#[derive(Clone, Copy, Debug, PartialEq, Eq)]
 pub enum Sum {
     Plus,
     Minus,
@@ -87,162 +82,96 @@ pub enum Sum {
 }
 
 // The thirteen operators.
-#[derive(Clone, Copy)]
+#[derive(Clone, Copy, Debug, PartialEq, Eq)]
 pub enum Op {
     Joins(Logic),
     Compares(Order),
     Counts(Sum),
-    Other,
 }
 
-#[derive(Clone, Copy)]
-pub enum Named {
-    Of(Integer),
-    Other,
-}
-
-// `+ - * / %` by their numbers, 9 to 13.
-fn sum_of(n: u64) -> Op
-    requires { 8 < n }
+// An operator by the detail of its row: `|| && == != < <= > >= + - * / %`.
+#[tactic(auto, unfolding(crate::specs::Values::op_of))]
+pub fn op_of(n: u64) -> Option<Op>
     ensures { result ≡ op_of n }
 {
-    if n == 9 {
-        return Op::Counts(Sum::Plus);
-    }
-    if n == 10 {
-        return Op::Counts(Sum::Minus);
-    }
-    if n == 11 {
-        return Op::Counts(Sum::Times);
-    }
-    if n == 12 {
-        return Op::Counts(Sum::Over);
-    }
-    if n == 13 {
-        return Op::Counts(Sum::Rest);
-    }
-    Op::Other
+    Some(match n {
+        1 => Op::Joins(Logic::Or),
+        2 => Op::Joins(Logic::And),
+        3 => Op::Compares(Order::Equal),
+        4 => Op::Compares(Order::Unequal),
+        5 => Op::Compares(Order::Less),
+        6 => Op::Compares(Order::AtMost),
+        7 => Op::Compares(Order::More),
+        8 => Op::Compares(Order::AtLeast),
+        9 => Op::Counts(Sum::Plus),
+        10 => Op::Counts(Sum::Minus),
+        11 => Op::Counts(Sum::Times),
+        12 => Op::Counts(Sum::Over),
+        13 => Op::Counts(Sum::Rest),
+        _ => return None,
+    })
 }
 
-// An operator by the detail of its row: `|| && == != < <= > >=`, then those.
-pub fn op_of(n: u64) -> Op
-    ensures { result ≡ op_of n }
-{
-    if 8 < n {
-        return sum_of(n);
-    }
-    if n == 1 {
-        return Op::Joins(Logic::Or);
-    }
-    if n == 2 {
-        return Op::Joins(Logic::And);
-    }
-    if n == 3 {
-        return Op::Compares(Order::Equal);
-    }
-    if n == 4 {
-        return Op::Compares(Order::Unequal);
-    }
-    if n == 5 {
-        return Op::Compares(Order::Less);
-    }
-    if n == 6 {
-        return Op::Compares(Order::AtMost);
-    }
-    if n == 7 {
-        return Op::Compares(Order::More);
-    }
-    if n == 8 {
-        return Op::Compares(Order::AtLeast);
-    }
-    Op::Other
-}
-
-pub fn integer_of(n: u64) -> Named
+// An integer type by its number.
+#[tactic(auto, unfolding(crate::specs::Values::integer_of))]
+pub fn integer_of(n: u64) -> Option<Integer>
     ensures { result ≡ integer_of n }
 {
-    if 8 < n {
-        return Named::Other;
-    }
-    if n == 1 {
-        return Named::Of(Integer::I8);
-    }
-    if n == 2 {
-        return Named::Of(Integer::I16);
-    }
-    if n == 3 {
-        return Named::Of(Integer::I32);
-    }
-    if n == 4 {
-        return Named::Of(Integer::I64);
-    }
-    if n == 5 {
-        return Named::Of(Integer::U8);
-    }
-    if n == 6 {
-        return Named::Of(Integer::U16);
-    }
-    if n == 7 {
-        return Named::Of(Integer::U32);
-    }
-    if n == 8 {
-        return Named::Of(Integer::U64);
-    }
-    Named::Other
+    Some(match n {
+        1 => Integer::I8,
+        2 => Integer::I16,
+        3 => Integer::I32,
+        4 => Integer::I64,
+        5 => Integer::U8,
+        6 => Integer::U16,
+        7 => Integer::U32,
+        8 => Integer::U64,
+        _ => return None,
+    })
 }
 
+#[tactic(auto, using(crate::proofs::Told::no_nan, crate::proofs::Told::nan), unfolding(crate::specs::Values::literal_value))]
 pub fn literal(kind: u64, value: u64) -> Value
     ensures { result ≡ literal_value kind value }
 {
-    if kind == kind::INTEGER {
-        return Value::Whole(value);
+    match kind {
+        kind::INTEGER => Value::Whole(value),
+        kind::FLOAT if INFINITY < value % SIGN => Value::Truth(false),
+        kind::FLOAT => Value::Float(f64::from_bits(value)),
+        _ => Value::Truth(value == 1),
     }
-    if kind == kind::FLOAT {
-        if INFINITY < value % SIGN {
-            return Value::Truth(false);
-        }
-        return Value::Float(f64::from_bits(value));
-    }
-    Value::Truth(value == 1)
 }
 
+#[tactic(auto, unfolding(crate::specs::Values::single_of, crate::specs::Values::negated_of))]
 pub fn single(kind: u64, ty: u64, a: Value) -> Value
     ensures { result ≡ single_of kind ty a }
 {
     match a {
-        Value::Whole(x) => {
-            let t = integer_of(ty);
-            match t {
-                Named::Of(i) => Value::Whole(wholes::negated(i, x)),
-                Named::Other => a,
-            }
-        }
+        Value::Whole(x) => match integer_of(ty) {
+            Some(t) => Value::Whole(wholes::negated(t, x)),
+            None => a,
+        },
         Value::Float(x) => Value::Float(-x),
         Value::Truth(x) => Value::Truth(!x),
     }
 }
 
-pub fn part(p: Part) -> Step
-    ensures { result ≡ part_of p }
-{
-    match p {
-        Part::Of(n) => Step::To(Value::Whole(n)),
-        Part::None => Step::Zero,
-    }
-}
-
-pub fn whole(o: Sum, t: Integer, a: u64, b: u64) -> Step
+// None where the divisor is zero.
+#[tactic(auto, unfolding(crate::specs::Values::whole_of, crate::specs::Values::part_of))]
+pub fn whole(o: Sum, t: Integer, a: u64, b: u64) -> Option<Value>
     ensures { result ≡ whole_of o t a b }
 {
-    match o {
-        Sum::Plus => Step::To(Value::Whole(wholes::sum(t, a, b))),
-        Sum::Minus => Step::To(Value::Whole(wholes::difference(t, a, b))),
-        Sum::Times => Step::To(Value::Whole(wholes::product(t, a, b))),
-        Sum::Over => part(wholes::quotient(t, a, b)),
-        Sum::Rest => part(wholes::remainder(t, a, b)),
-    }
+    let n = match o {
+        Sum::Plus => wholes::sum(t, a, b),
+        Sum::Minus => wholes::difference(t, a, b),
+        Sum::Times => wholes::product(t, a, b),
+        Sum::Over => wholes::quotient(t, a, b)?,
+        Sum::Rest => wholes::remainder(t, a, b)?,
+    };
+    Some(Value::Whole(n))
 }
 
+#[tactic(auto, unfolding(crate::specs::Values::order_of))]
 pub fn ordered(o: Order, a: u64, b: u64) -> bool
     ensures { result ≡ order_of o a b }
 {
@@ -256,6 +185,7 @@ pub fn ordered(o: Order, a: u64, b: u64) -> bool
     }
 }
 
+#[tactic(auto, unfolding(crate::specs::Values::float_of))]
 pub fn float(o: Sum, a: f64, b: f64) -> f64
     ensures { result ≡ float_of o a b }
 {
@@ -268,6 +198,7 @@ pub fn float(o: Sum, a: f64, b: f64) -> f64
     }
 }
 
+#[tactic(auto, unfolding(crate::specs::Values::join_of))]
 pub fn joined(o: Logic, a: bool, b: bool) -> bool
     ensures { result ≡ join_of o a b }
 {
@@ -277,156 +208,193 @@ pub fn joined(o: Logic, a: bool, b: bool) -> bool
     }
 }
 
-// Two whole numbers.
-pub fn numbers(o: Op, ty: u64, a: u64, b: u64) -> Step
+// Two whole numbers; none where the divisor is zero.
+#[tactic(auto, unfolding(crate::specs::Values::numbers_of, crate::specs::Values::wholes_of))]
+pub fn numbers(o: Option<Op>, ty: u64, a: u64, b: u64) -> Option<Value>
     ensures { result ≡ numbers_of o (integer_of ty) a b }
 {
-    match o {
-        Op::Joins(_) => Step::To(Value::Truth(false)),
-        Op::Compares(q) => Step::To(Value::Truth(ordered(q, a, b))),
-        Op::Counts(q) => {
-            let t = integer_of(ty);
-            match t {
-                Named::Of(i) => whole(q, i, a, b),
-                Named::Other => Step::To(Value::Truth(false)),
-            }
-        }
-        Op::Other => Step::To(Value::Truth(false)),
+    match (o, integer_of(ty)) {
+        (Some(Op::Compares(q)), _) => Some(Value::Truth(ordered(q, a, b))),
+        (Some(Op::Counts(q)), Some(t)) => whole(q, t, a, b),
+        _ => Some(Value::Truth(false)),
     }
 }
 
-pub fn floats(o: Op, a: f64, b: f64) -> Value
+#[tactic(auto, unfolding(crate::specs::Values::floats_of))]
+pub fn floats(o: Option<Op>, a: f64, b: f64) -> Value
     ensures { result ≡ floats_of o a b }
 {
     match o {
-        Op::Joins(_) => Value::Truth(false),
-        Op::Compares(_) => Value::Truth(false),
-        Op::Counts(q) => Value::Float(float(q, a, b)),
-        Op::Other => Value::Truth(false),
+        Some(Op::Counts(q)) => Value::Float(float(q, a, b)),
+        _ => Value::Truth(false),
     }
 }
 
-pub fn truths(o: Op, a: bool, b: bool) -> Value
+#[tactic(auto, unfolding(crate::specs::Values::truths_of))]
+pub fn truths(o: Option<Op>, a: bool, b: bool) -> Value
     ensures { result ≡ truths_of o a b }
 {
     match o {
-        Op::Joins(q) => Value::Truth(joined(q, a, b)),
-        Op::Compares(_) => Value::Truth(false),
-        Op::Counts(_) => Value::Truth(false),
-        Op::Other => Value::Truth(false),
+        Some(Op::Joins(q)) => Value::Truth(joined(q, a, b)),
+        _ => Value::Truth(false),
     }
 }
 
-pub fn double(ty: u64, what: u64, a: Value, b: Value) -> Step
+// None where the divisor is zero; two values of two kinds are never met in a checked tree.
+#[tactic(auto, unfolding(crate::specs::Values::double_of))]
+pub fn double(ty: u64, what: u64, a: Value, b: Value) -> Option<Value>
     ensures { result ≡ double_of ty what a b }
 {
     let o = op_of(what);
-    match a {
-        Value::Whole(x) => match b {
-            Value::Whole(y) => numbers(o, ty, x, y),
-            Value::Float(_) => Step::To(a),
-            Value::Truth(_) => Step::To(a),
-        },
-        Value::Float(x) => match b {
-            Value::Whole(_) => Step::To(a),
-            Value::Float(y) => Step::To(floats(o, x, y)),
-            Value::Truth(_) => Step::To(a),
-        },
-        Value::Truth(x) => match b {
-            Value::Whole(_) => Step::To(a),
-            Value::Float(_) => Step::To(a),
-            Value::Truth(y) => Step::To(truths(o, x, y)),
-        },
+    match (a, b) {
+        (Value::Whole(x), Value::Whole(y)) => numbers(o, ty, x, y),
+        (Value::Float(x), Value::Float(y)) => Some(floats(o, x, y)),
+        (Value::Truth(x), Value::Truth(y)) => Some(truths(o, x, y)),
+        _ => Some(a),
     }
 }
 
 // A whole number of a type with its sign drawn out to 64 bits; where the number names no integer type, as it is.
+#[tactic(auto, unfolding(crate::specs::Values::extended_of))]
 fn whole_bits(ty: u64, a: u64) -> u64
     ensures { result ≡ extended_of (integer_of ty) a }
 {
-    let t = integer_of(ty);
-    match t {
-        Named::Of(i) => wholes::extended(i, a),
-        Named::Other => a,
+    match integer_of(ty) {
+        Some(t) => wholes::extended(t, a),
+        None => a,
     }
 }
 
 // The bits of a float, one pattern for every NaN.
+#[tactic(auto, unfolding(crate::specs::Values::float_bits))]
 fn float_bits(x: f64) -> u64
     ensures { result ≡ float_bits x }
 {
-    if x == x {
-        return f64::to_bits(x);
-    }
-    NAN
+    if x.is_nan() { NAN } else { x.to_bits() }
 }
 
 // A value of a type as 64 bits: a whole number with its sign drawn out, a float's own, 1 for `true`.
+#[tactic(auto, unfolding(crate::specs::Values::bits_of))]
 pub fn bits_of(ty: u64, v: Value) -> u64
     ensures { result ≡ bits_of ty v }
 {
     match v {
         Value::Whole(a) => whole_bits(ty, a),
         Value::Float(x) => float_bits(x),
-        Value::Truth(b) => {
-            if b {
-                return 1;
-            }
-            0
+        Value::Truth(b) => u64::from(b),
+    }
+}
+
+// kept: a stack of our own, since the kit's ArrayVec would be the first crate that the library stands on.
+// The values on the stack.
+#[derive(Drop)]
+struct Stack {
+    values: [Value; MOST],
+    depth: usize,
+}
+
+// Seen as a list, its top first.
+impl Model for Stack {
+    ghost use Rattle.std.specs.Prelude.{ℕ, List, ◌≤◌, reverse, take};
+    ghost use Rattle.machine.specs.declared.Value as value;
+
+    ghost Value = { List value.Value };
+
+    ghost view = { λ s. reverse (take s.depth s.values) };
+
+    ghost invariant = { λ s. s.depth ≤ 1024 };
+}
+
+impl Stack {
+    fn new() -> Stack
+        ensures { result ≡ [] }
+    {
+        Stack {
+            values: [Value::Truth(false); MOST],
+            depth: 0,
+        }
+    }
+
+    fn push(&mut self, v: Value)
+        requires { length self.old < 1024 }
+        ensures { self.new ≡ v ∷ self.old }
+    {
+        self.values[self.depth] = v;
+        self.depth += 1;
+    }
+
+    fn pop(&mut self) -> Option<Value>
+        ensures some { IfSome result (λ v. self.old ≡ v ∷ self.new) }
+        ensures none { IfNone result (self.old ≡ []) }
+    {
+        if self.depth == 0 {
+            return None;
+        }
+        self.depth -= 1;
+        Some(self.values[self.depth])
+    }
+
+    // A literal, whose kind is below an operator's, is put on the stack; an operator takes two values, a sign one.
+    #[tactic(auto, unfolding(crate::specs::Machine::step_of, crate::specs::Machine::double_on, crate::specs::Machine::single_on, crate::specs::Machine::topped))]
+    fn step(&mut self, x: Instruction) -> Result<(), Stop>
+        requires { length self.old < 1024 }
+        ensures ok { OnOk result (step_of x self.old ≡ Ok self.new) }
+        ensures err { IfErr result (λ e. step_of x self.old ≡ Err e) }
+    {
+        if x.kind < kind::BINARY {
+            self.push(literal(x.kind, x.value));
+            return Ok(());
+        }
+        let top = self.pop().ok_or(Stop::Broken)?;
+        if x.kind == kind::BINARY {
+            let below = self.pop().ok_or(Stop::Broken)?;
+            let v = double(x.ty, x.value, below, top).ok_or(Stop::ZeroDivisor(x.start, x.end))?;
+            self.push(v);
+        } else {
+            self.push(single(x.kind, x.ty, top));
+        }
+        Ok(())
+    }
+
+    // The value that is left, alone.
+    #[tactic(auto, unfolding(crate::specs::Machine::ended))]
+    fn end(&mut self) -> Result<Value, Stop>
+        ensures { result ≡ ended self.old }
+    {
+        let v = self.pop().ok_or(Stop::Broken)?;
+        match self.pop() {
+            Some(_) => Err(Stop::Broken),
+            None => Ok(v),
         }
     }
 }
 
+// An instruction of the list.
+fn read(list: &[u64], i: usize) -> Instruction
+    requires { i * wide + wide ≤ length list.now }
+    ensures { result ≡ instr_at list.now i }
+{
+    let at = i * WIDTH;
+    Instruction {
+        kind: list[at],
+        ty: list[at + 1],
+        value: list[at + 2],
+        start: list[at + 3],
+        end: list[at + 4],
+    }
+}
+
 // Runs the first n instructions of the list.
-pub fn run(list: &[u64], n: usize) -> Ran
+#[tactic(auto, using(crate::proofs::Running::goes), unfolding(crate::specs::Machine::ran_of))]
+pub fn run(list: &[u64], n: usize) -> Result<Value, Stop>
     ensures { result ≡ ran_of list.now n }
 {
-    if MOST < n {
-        return Ran::Broken;
+    if (MOST < n) | (list.len() / WIDTH < n) {
+        return Err(Stop::Broken);
     }
-    if list.len() / WIDTH < n {
-        return Ran::Broken;
+    let mut stack = Stack::new();
+    for i in 0..n {
+        stack.step(read(list, i))?;
     }
-    let none = Value::Truth(false);
-    let mut stack = [none; MOST];
-    let mut d = 0usize;
-    let mut i = 0usize;
-    while i < n {
-        let at = i * WIDTH;
-        let kind = list[at];
-        let ty = list[at + TYPE];
-        let value = list[at + VALUE];
-        i = i + 1;
-        if kind < kind::BINARY {
-            let v = literal(kind, value);
-            stack[d] = v;
-            d = d + 1;
-            continue;
-        }
-        if kind == kind::BINARY {
-            if d < 2 {
-                return Ran::Broken;
-            }
-            let a = stack[d - 2];
-            let b = stack[d - 1];
-            let s = double(ty, value, a, b);
-            let Step::To(v) = s else {
-                return Ran::Zero(list[at + START], list[at + END]);
-            };
-            stack[d - 2] = v;
-            d = d - 1;
-            continue;
-        }
-        if d == 0 {
-            return Ran::Broken;
-        }
-        let a = stack[d - 1];
-        let v = single(kind, ty, a);
-        stack[d - 1] = v;
-    }
-    if d == 1 {
-        let v = stack[0];
-        return Ran::Done(v);
-    }
-    Ran::Broken
+    stack.end()
 }

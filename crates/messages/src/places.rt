@@ -1,15 +1,13 @@
 // Where a place is: its line and column, and the part of its line that is shown.
-use super::text;
-use super::text::Form;
+use super::page::Page;
+use super::part::{Part, shown as printable};
 
 // The widest part of a line that is shown, and how much of it stands before the place where the line is longer.
 const WINDOW: usize = 100;
 
 const BEFORE: usize = 40;
 
-const NEWLINE: u16 = 10;
-
-const RETURN: u16 = 13;
+const NEWLINE: u16 = b'\n' as u16;
 
 // A line and a column in it, in bytes from 1, and where the line begins.
 #[derive(Clone, Copy)]
@@ -21,103 +19,70 @@ pub struct Spot {
 
 // Where a place is. Only a newline ends a line.
 pub fn spot_of(s: &[u8], at: usize) -> Spot {
-    let mut line: usize = 1;
-    let mut from: usize = 0;
-    let mut i: usize = 0;
-    while i < s.len() {
-        if at <= i {
-            return Spot {
-                line,
-                column: i - from + 1,
-                from,
-            };
-        }
-        i += 1;
-        if chars::byte_at(s, i - 1) == NEWLINE {
-            line += 1;
-            from = i;
-        }
-    }
+    let before = &s[..at.min(s.len())];
+    let from = chars::behind_last(before, before.len(), NEWLINE);
     Spot {
-        line,
-        column: i - from + 1,
+        line: before.iter().filter(|b| **b == b'\n').count() + 1,
+        column: before.len().saturating_sub(from) + 1,
         from,
     }
 }
 
-// A part of a source, from one place to another.
-#[derive(Clone, Copy)]
-struct View {
-    from: usize,
-    to: usize,
-}
-
-fn less(a: usize, b: usize) -> usize {
-    if a < b { 0 } else { a - b }
-}
-
-fn least(a: usize, b: usize) -> usize {
-    if a < b { a } else { b }
-}
-
-fn most(a: usize, b: usize) -> usize {
-    if a < b { b } else { a }
-}
-
-// The end of the line that begins at a place, without a carriage return before its newline.
-fn line_end(s: &[u8], from: usize) -> usize {
+// The line that begins at a place, without a carriage return before its newline.
+fn line_from(s: &[u8], from: usize) -> Part<'_> {
     let end = numbers::until(s, from, NEWLINE);
-    if from < end {
-        if chars::byte_at(s, less(end, 1)) == RETURN {
-            return less(end, 1);
-        }
+    let line = Part {
+        source: s,
+        start: from,
+        end,
+    };
+    match line.bytes() {
+        [.., b'\r'] => line.to(end.saturating_sub(1)),
+        _ => line,
     }
-    end
 }
 
 // What is shown of a line for a place in it: all of it, or a window with the place in it.
-fn window(from: usize, to: usize, start: usize) -> View {
-    if less(to, from) <= WINDOW {
-        return View { from, to };
+fn window<'a>(line: Part<'a>, at: usize) -> Part<'a> {
+    if line.end.saturating_sub(line.start) <= WINDOW {
+        return line;
     }
-    let first = least(less(start, BEFORE), less(to, WINDOW));
-    let first = most(from, first);
-    View {
-        from: first,
-        to: least(to, std::num::wrapping_add_usize(first, WINDOW)),
+    let last = line.end.saturating_sub(WINDOW);
+    let first = at.saturating_sub(BEFORE).min(last).max(line.start);
+    Part {
+        source: line.source,
+        start: first,
+        end: first.saturating_add(WINDOW).min(line.end),
     }
 }
 
-// Two periods for what was cut off, and blanks under them.
-fn cut(out: &mut [u8], at: usize, is: bool, mark: u8) -> usize {
-    if is {
-        let next = text::put(out, at, mark);
-        return text::put(out, next, mark);
-    }
-    at
+// What stands under a byte of a line: a mark, but for a tab.
+fn unless_tab(b: u8, mark: u8) -> u8 {
+    if b == b'\t' { b } else { mark }
 }
 
 // At least one caret.
-fn carets(out: &mut [u8], at: usize, s: &[u8], start: usize, end: usize) -> usize {
-    if end <= start {
-        return text::put(out, at, b'^');
+fn put_carets(page: &mut Page, part: Part) {
+    if part.end <= part.start {
+        page.put(b'^');
     }
-    text::part(out, at, Form::Caret, s, start, end)
+    page.put_each(part.bytes(), |b| unless_tab(b, b'^'));
 }
 
-// The line of a place, and carets under the place as far as its line is shown.
-pub fn shown(out: &mut [u8], at: usize, s: &[u8], start: usize, end: usize) -> usize {
-    let spot = spot_of(s, start);
-    let from = spot.from;
-    let to = line_end(s, from);
-    let w = window(from, to, start);
-    let mut n = text::raw(out, at, b"  ");
-    n = cut(out, n, from < w.from, b'.');
-    n = text::part(out, n, Form::Shown, s, w.from, w.to);
-    n = cut(out, n, w.to < to, b'.');
-    n = text::raw(out, n, b"\n  ");
-    n = cut(out, n, from < w.from, b' ');
-    n = text::part(out, n, Form::Under, s, w.from, start);
-    n = carets(out, n, s, start, least(end, w.to));
-    text::put(out, n, b'\n')
+// The line of a place, and carets under the place as far as its line is shown. Periods stand for what was cut off, and blanks under them.
+pub fn show(page: &mut Page, s: &[u8], start: usize, end: usize) {
+    let line = line_from(s, spot_of(s, start).from);
+    let seen = window(line, start);
+    let is_cut = line.start < seen.start;
+    page.put_all(if is_cut { b"  .." } else { b"  " });
+    page.put_each(seen.bytes(), printable);
+    page.put_all(if seen.end < line.end {
+        b"..\n  "
+    } else {
+        b"\n  "
+    });
+    page.put_all(if is_cut { b"  " } else { b"" });
+    page.put_each(seen.to(start).bytes(), |b| unless_tab(b, b' '));
+    put_carets(page, seen.from(start).to(end.min(seen.end)));
+    page.put(b'\n');
 }

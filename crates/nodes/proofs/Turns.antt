@@ -30,17 +30,15 @@ good_size n r e =
     let h = or_left (eqb r.size 0 || ltb n r.size) _ e in
     (above r.size (eqb-false r.size 0 (or_left (eqb r.size 0) _ h)), ltb-false n r.size (or_right (eqb r.size 0) _ h))
 
-module _ (table : List ℕ) (position n : ℕ) (some : 0 < n) {r : Node} (row : r ≡ node_at table (n - 1)) where
-  one_more : suc (n - 1) ≡ n
-  one_more = omega arith
-
+-- row i is the last of n rows
+module _ (table : List ℕ) (position i n : ℕ) (last : suc i ≡ n) {r : Node} (row : r ≡ node_at table i) where
   -- the rows left are named as the search names them
-  named : {a : Answer} → Search table position (suc (n - 1)) a → Search table position n a
-  named {a} s = subst (λ (m : ℕ). Search table position m a) one_more s
+  named : {a : Answer} → Search table position (suc i) a → Search table position n a
+  named {a} s = subst (λ (m : ℕ). Search table position m a) last s
 
   module _ {w : Bool} (test : w ≡ wrong_size n r) where
-    says : {b : Bool} → w ≡ b → wrong_size (suc (n - 1)) (node_at table (n - 1)) ≡ b
-    says e = ap (λ (m : ℕ). wrong_size m (node_at table (n - 1))) one_more ∙ ap (wrong_size n) (sym row) ∙ sym test ∙ e
+    says : {b : Bool} → w ≡ b → wrong_size (suc i) (node_at table i) ≡ b
+    says e = (λ j. wrong_size (last j) (sym row j)) ∙ sym test ∙ e
 
     pub at_wrong : w ≡ true → Search table position n (refusal WRONG_SIZE)
     at_wrong e = named (wrong (says e))
@@ -49,22 +47,22 @@ module _ (table : List ℕ) (position n : ℕ) (some : 0 < n) {r : Node} (row : 
     back e = good_size n r (sym test ∙ e)
 
     module _ (good : w ≡ false) {h : Bool} (span : h ≡ holds position r) where
-      spans : {b : Bool} → h ≡ b → holds position (node_at table (n - 1)) ≡ b
+      spans : {b : Bool} → h ≡ b → holds position (node_at table i) ≡ b
       spans e = ap (holds position) (sym row) ∙ sym span ∙ e
 
       pub goes_past : h ≡ false → {a : Answer} → Search table position (n - r.size) a → Search table position n a
       goes_past e {a} s =
-          let k : n - r.size ≡ suc (n - 1) - (node_at table (n - 1)).size = ap (λ (m : ℕ). m - r.size) (sym one_more) ∙ ap (λ (x : Node). suc (n - 1) - x.size) row in
+          let k : n - r.size ≡ suc i - (node_at table i).size = λ j. sym last j - (row j).size in
           named (past (says good) (spans e) (subst (λ (m : ℕ). Search table position m a) k s))
 
       module _ (inside : h ≡ true) {l : Bool} (none-under : l ≡ is_leaf r) where
-        leafs : {b : Bool} → l ≡ b → is_leaf (node_at table (n - 1)) ≡ b
+        leafs : {b : Bool} → l ≡ b → is_leaf (node_at table i) ≡ b
         leafs e = ap is_leaf (sym row) ∙ sym none-under ∙ e
 
-        pub at_leaf : l ≡ true → Search table position n (found (n - 1) r)
-        at_leaf e = named (subst (λ (x : Node). Search table position (suc (n - 1)) (found (n - 1) x)) (sym row) (leaf (says good) (spans inside) (leafs e)))
+        pub at_leaf : l ≡ true → Search table position n (found i r)
+        at_leaf e = named (subst (λ (x : Node). Search table position (suc i) (found i x)) (sym row) (leaf (says good) (spans inside) (leafs e)))
 
-        pub goes_before : l ≡ false → {a : Answer} → Search table position (n - 1) a → Search table position n a
+        pub goes_before : l ≡ false → {a : Answer} → Search table position i a → Search table position n a
         goes_before e s = named (before (says good) (spans inside) (leafs e) s)
 
 pub no_row : (table : List ℕ) (position n : ℕ) → n ≤ 0 → Search table position n (refusal NO_LEAF)

@@ -25,7 +25,7 @@ const CHILDREN: usize = 3;
 const SIZE: usize = 6;
 
 // What the search looks at of a row.
-#[derive(Clone, Copy)]
+#[derive(Clone, Copy, Debug, PartialEq, Eq)]
 pub struct Node {
     pub start: u64,
     pub end: u64,
@@ -33,37 +33,39 @@ pub struct Node {
     pub size: u64,
 }
 
-fn row_at(table: &[u64], row: usize) -> Node
-    requires { row < room table.now }
-    ensures { result ≡ node_at table.now row }
-{
-    let at = row * WIDTH;
-    Node {
-        start: table[at + START],
-        end: table[at + END],
-        children: table[at + CHILDREN],
-        size: table[at + SIZE],
+impl Node {
+    fn at(table: &[u64], row: usize) -> Node
+        requires { row < room table.now }
+        ensures { result ≡ node_at table.now row }
+    {
+        let at = row * WIDTH;
+        Node {
+            start: table[at + START],
+            end: table[at + END],
+            children: table[at + CHILDREN],
+            size: table[at + SIZE],
+        }
     }
-}
 
-// On a span's end the byte is outside.
-fn holds(r: Node, position: u64) -> bool
-    ensures { result ≡ holds position r }
-{
-    (r.start <= position) & (position < r.end)
-}
+    // On a span's end the byte is outside.
+    fn holds(self, position: u64) -> bool
+        ensures { result ≡ holds position self }
+    {
+        (self.start..self.end).contains(&position)
+    }
 
-fn is_leaf(r: Node) -> bool
-    ensures { result ≡ is_leaf r }
-{
-    r.children == 0
-}
+    fn is_leaf(self) -> bool
+        ensures { result ≡ is_leaf self }
+    {
+        self.children == 0
+    }
 
-// Whether the size of the last of some rows is 0, reaches before the table's start, or isn't 1 at a leaf.
-fn wrong_size(r: Node, rows: u64) -> bool
-    ensures { result ≡ wrong_size rows r }
-{
-    (r.size == 0) | (rows < r.size) | is_leaf(r) & (r.size != 1)
+    // Whether the size of the last of some rows is 0, reaches before the table's start, or isn't 1 at a leaf.
+    fn wrong_size(self, rows: usize) -> bool
+        ensures { result ≡ wrong_size rows self }
+    {
+        self.size == 0 || (rows as u64) < self.size || self.is_leaf() && self.size != 1
+    }
 }
 
 fn refused(number: u64) -> Answer
@@ -77,13 +79,13 @@ fn refused(number: u64) -> Answer
     }
 }
 
-fn accepted(r: Node, row: usize) -> Answer
-    ensures { result ≡ found row r }
+fn accepted(node: Node, row: usize) -> Answer
+    ensures { result ≡ found row node }
 {
     Answer {
         number: refusal::NONE,
-        start: r.start as usize,
-        end: r.end as usize,
+        start: node.start as usize,
+        end: node.end as usize,
         count: row,
     }
 }
@@ -93,20 +95,19 @@ pub fn node_at(table: &[u64], position: u64) -> Answer
     ensures { Permitted table.now position result }
 {
     let mut left = table.len() / WIDTH;
-    while 0 < left {
-        let row = left - 1;
-        let r = row_at(table, row);
-        if wrong_size(r, left as u64) {
+    while let Some(row) = left.checked_sub(1) {
+        let node = Node::at(table, row);
+        if node.wrong_size(left) {
             return refused(WRONG_SIZE);
         }
-        if holds(r, position) {
-            if is_leaf(r) {
-                return accepted(r, row);
-            }
-            left = row;
-        } else {
-            left -= r.size as usize;
+        if !node.holds(position) {
+            left -= node.size as usize;
+            continue;
         }
+        if node.is_leaf() {
+            return accepted(node, row);
+        }
+        left = row;
     }
     refused(NO_LEAF)
 }

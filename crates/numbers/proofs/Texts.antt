@@ -1,16 +1,20 @@
 -- Places in a text.
+use Rattle.std.specs.Prelude.{Option, Some, None, position, unwrap_or}
+use Rattle.std.specs.List.{position_or_len}
+use Rattle.std.proofs.lemmas.List.Recursion.{is_position_or_len}
+use Rattle.std.proofs.lemmas.List.Sums.{prefix_len-le-length}
 use mathlib.Core.Path.{◌≡◌, refl, sym, ap, ◌∙◌}
 use Prim.Native.Nat.{ℕ, suc, ◌+◌, ◌-◌, ◌<◌, ◌≤◌, zero-le, suc-le-suc}
 use mathlib.Core.List.{List, [], ◌∷◌}
-use mathlib.Core.Bool.{Bool, true, false, cond}
+use mathlib.Core.Bool.{Bool, true, false, not, cond}
 use native.Mathlib.Nat.{le_refl, add-zero, add-suc, suc-add}
 use native.Mathlib.Numerals.{add-one}
 use native.Mathlib.Decide.{dec_lt}
 use native.Mathlib.Omega.{arith}
 use lib.ListN.{length, take, drop, length-drop, drop_of_length-le}
 use lib.Seq.{drop-cons, take_all, get_or-drop}
-use lib.Dec.{eqb}
-use borrow.Author.Tests.{eq-eqb, ne_eqb}
+use lib.Dec.{eqb, ltb}
+use borrow.Author.Tests.{eq-eqb, ne_eqb, ltb-false}
 use Rattle.chars.specs.Chars.{byte_at}
 use Rattle.chars.proofs.Runs.{byte_in, byte_out}
 use Rattle.numbers.specs.Texts.{ahead, until_byte}
@@ -40,10 +44,26 @@ ahead_le stop (b ∷ l) = go (eqb b stop) (ahead_le stop l)
     go true h = zero-le
     go false h = suc-le-suc h
 
+-- `position` and the end where there is none
+ahead_is : (stop : ℕ) (l : List ℕ) → ahead stop l ≡ position_or_len (λ b. eqb b stop) l
+unfolding ahead
+ahead_is stop l = is_position_or_len (ahead stop) (λ b. eqb b stop) refl (λ b m. let e : suc (ahead stop m) ≡ 1 + ahead stop m = omega arith in ap (λ n. cond (eqb b stop) 0 n) e) l
+
+pub or_end : {A : Type 0} (p : A → Bool) (l : List A) → unwrap_or (position p l) (length l) ≡ position_or_len p l
+or_end p l = go (ltb (position_or_len p l) (length l)) refl
+  where
+    go : (b : Bool) → ltb (position_or_len p l) (length l) ≡ b → unwrap_or (cond b (Some (position_or_len p l)) None) (length l) ≡ position_or_len p l
+    go true e = refl
+    go false e = omega (arith, ltb-false _ _ e, prefix_len-le-length (λ x. not (p x)) l)
+
 module _ (stop : ℕ) (t : List ℕ) (i : ℕ) where
   pub until_ge : i ≤ until_byte stop t i
   unfolding until_byte
   until_ge = omega arith
+
+  pub until_found : {l : List ℕ} {r : Option ℕ} {n : ℕ} → l ≡ drop i t → r ≡ position (λ b. eqb b stop) l → n ≡ unwrap_or r (length l) → i + n ≡ until_byte stop t i
+  unfolding until_byte
+  until_found {l} e f g = ap (λ k. i + k) (g ∙ ap (λ r. unwrap_or r (length l)) f ∙ or_end (λ b. eqb b stop) l ∙ sym (ahead_is stop l) ∙ ap (ahead stop) e)
 
   pub until_end : length t ≤ i → i ≡ until_byte stop t i
   unfolding until_byte ahead

@@ -1,9 +1,9 @@
 -- The numbers that digits write, over any base.
-use Rattle.std.specs.Prelude.{ℕ, ◌+◌, ◌-◌, ◌*◌, List, [], ◌∷◌, map, Bool, true, ◌&&◌, cond, length, ltb, leb, eqb}
+use Rattle.std.specs.Prelude.{Some, None, ℕ, ◌+◌, ◌-◌, ◌*◌, List, [], ◌∷◌, map, Bool, true, ◌&&◌, cond, length, ltb, leb, eqb}
 use Rattle.chars.specs.Chars.{is_digit}
 use Rattle.numbers.specs.declared.Base.{Base}
-use Rattle.numbers.specs.declared.Number.{Number}
-use Rattle.numbers.specs.declared.Sum.{Sum}
+use Rattle.numbers.specs.Results.{Number}
+use Rattle.numbers.specs.Results.{Sum}
 
 abbrev pub radix_of : Base → ℕ
 radix_of Base.Ten = 10
@@ -33,7 +33,7 @@ plain gaps (b ∷ l) = let rest : List ℕ = plain gaps l in cond (gaps && eqb b
 -- n digits that write v, and then the digits ds: all below the base, one or more, at most the limit
 unfoldable pub number_from : ℕ → ℕ → ℕ → ℕ → List ℕ → Number
 number_from r limit v n ds =
-    cond (all_below r ds && (leb (value_from r v ds) limit && ltb 0 (n + length ds))) (Number.Is (value_from r v ds) (n + length ds)) Number.None
+    cond (all_below r ds && (leb (value_from r v ds) limit && ltb 0 (n + length ds))) (Some (value_from r v ds, n + length ds)) None
 
 -- the number that a text of digits writes
 unfoldable pub number_of : Base → ℕ → List ℕ → Number
@@ -41,4 +41,4 @@ number_of base limit text = number_from (radix_of base) limit 0 0 (map digit_of 
 
 -- one digit more
 unfoldable pub add_of : Base → ℕ → ℕ → ℕ → Sum
-add_of base limit v d = cond (ltb d (radix_of base) && leb (v * radix_of base + d) limit) (Sum.Is (v * radix_of base + d)) Sum.None
+add_of base limit v d = cond (ltb d (radix_of base) && leb (v * radix_of base + d) limit) (Some (v * radix_of base + d)) None

@@ -1,3 +1,4 @@
+pub mod Results
 pub mod Digits
 pub mod Texts
 pub mod Numbers

@@ -8,10 +8,28 @@ ghost use Rattle.numbers.specs.Numbers.{suffix_of, ceiling_of, integer_of, point
 
 use chars::{Class, same};
 
-const PERIOD: u16 = 46;
+const PERIOD: u16 = b'.' as u16;
+
+// The ends of the ranges that digits lie in.
+const ZERO: u16 = b'0' as u16;
+
+const NINE: u16 = b'9' as u16;
+
+const CAPITAL_A: u16 = b'A' as u16;
+
+const CAPITAL_F: u16 = b'F' as u16;
+
+const SMALL_A: u16 = b'a' as u16;
+
+const SMALL_F: u16 = b'f' as u16;
+
+const UNDERSCORE: u8 = b'_';
 
 // The greatest value of a hex number, and of an integer without a suffix.
 const UNSUFFIXED: u64 = 9223372036854775807;
+
+// The greatest AS number: they have 32 bits.
+const MOST_AS: u64 = 4294967295;
 
 // The greatest value under each suffix of an integer, by the suffix's number: none, then i8 to i64, then u8 to u64.
 const CEILINGS: [u64; 9] = [
@@ -26,145 +44,111 @@ const CEILINGS: [u64; 9] = [
     18446744073709551615,
 ];
 
-#[derive(Clone, Copy)]
+// The suffixes, each at its number.
+const SUFFIXES: [&[u8]; 11] = [
+    b"", b"i8", b"i16", b"i32", b"i64", b"u8", b"u16", b"u32", b"u64", b"f32", b"f64",
+];
+
+// The numbers of the floats' suffixes, behind those of the integers', and of any other text.
+const F32: u64 = 9;
+
+const F64: u64 = 10;
+
+const NO_SUFFIX: u64 = 11;
+
+#[derive(Debug, Clone, Copy, PartialEq, Eq)]
 pub enum Base {
     Ten,
     Sixteen,
 }
 
-// A number and how many digits write it.
-#[derive(Clone, Copy)]
-pub enum Number {
-    Is { value: u64, digits: usize },
-    None,
+impl Base {
+    fn radix(self) -> u64
+        ensures { result ≡ radix_of self }
+    {
+        match self {
+            Base::Ten => 10,
+            Base::Sixteen => 16,
+        }
+    }
 }
 
-// What an integer or a float says. A suffix is 0 for none, 1 to 4 for i8 to i64, 5 to 8 for u8 to u64, 9 for f32, 10 for f64.
-#[derive(Clone, Copy)]
+// What an integer or a float says.
+// kept: a suffix is no enum, but the number that a row has for it: 0 for none, 1 to 4 for i8 to i64, 5 to 8 for u8 to u64, 9 for f32, 10 for f64.
+#[derive(Debug, Clone, Copy, PartialEq, Eq)]
 pub enum Amount {
     Integer { value: u64, suffix: u64 },
     Float(u64),
-    None,
-}
-
-#[derive(Clone, Copy)]
-pub enum Sum {
-    Is(u64),
-    None,
-}
-
-fn radix(base: Base) -> u64
-    ensures { result ≡ radix_of base }
-{
-    match base {
-        Base::Ten => 10,
-        Base::Sixteen => 16,
-    }
 }
 
 // What a hex digit says, and 16 for any other byte: no digit of either base.
+#[tactic(auto, unfolding(crate::specs::Digits::digit_of))]
 pub fn digit(b: u16) -> u64
     ensures { result ≡ digit_of b }
 {
-    if (48 <= b) & (b <= 57) {
-        return (b - 48) as u64;
+    match b {
+        ZERO..=NINE => u64::from(b - ZERO),
+        CAPITAL_A..=CAPITAL_F => 10 + u64::from(b - CAPITAL_A),
+        SMALL_A..=SMALL_F => 10 + u64::from(b - SMALL_A),
+        _ => 16,
     }
-    if (65 <= b) & (b <= 70) {
-        return (b - 55) as u64;
-    }
-    if (97 <= b) & (b <= 102) {
-        return (b - 87) as u64;
-    }
-    16
 }
 
-// One digit more, where the sum is at most the limit. The limit is divided, so that no product wraps.
-fn add(base: Base, limit: u64, value: u64, d: u64) -> Sum
+// One digit more, where the sum is at most the limit.
+fn add(base: Base, limit: u64, value: u64, d: u64) -> Option<u64>
     ensures { result ≡ add_of base limit value d }
 {
-    let r = radix(base);
-    if d < r {
-        if d <= limit {
-            if value <= (limit - d) / r {
-                return Sum::Is(value * r + d);
-            }
-        }
+    let radix = base.radix();
+    if radix <= d {
+        return None;
     }
-    Sum::None
+    let sum = value.checked_mul(radix)?.checked_add(d)?;
+    if sum <= limit { Some(sum) } else { None }
 }
 
 // The number that a whole text writes, at most the limit. Underscores are dropped where gaps are allowed.
-pub fn number_of(t: &[u8], base: Base, limit: u64, gaps: bool) -> Number
+pub fn number_of(t: &[u8], base: Base, limit: u64, gaps: bool) -> Option<(u64, usize)>
     ensures { result ≡ number_of base limit (plain gaps t.now) }
 {
     let mut value: u64 = 0;
     let mut digits: usize = 0;
-    let mut i = 0;
-    while i < t.len() {
-        let b = chars::byte_at(t, i);
-        if gaps & (b == 95) {
-            i += 1;
-        } else {
-            let Sum::Is(more) = add(base, limit, value, digit(b)) else {
-                return Number::None;
-            };
-            value = more;
-            digits += 1;
-            i += 1;
+    for &b in t {
+        if gaps && b == UNDERSCORE {
+            continue;
         }
+        value = add(base, limit, value, digit(u16::from(b)))?;
+        digits += 1;
     }
     if digits == 0 {
-        return Number::None;
+        None
+    } else {
+        Some((value, digits))
     }
-    Number::Is { value, digits }
 }
 
 // The first place from `at` on that holds a byte, or the end.
 pub fn until(t: &[u8], at: usize, stop: u16) -> usize
     ensures { result ≡ until_byte stop t.now at }
 {
-    let mut i = at;
-    while i < t.len() {
-        if chars::byte_at(t, i) == stop {
-            return i;
-        }
-        i += 1;
-    }
-    i
+    let Some(rest) = t.get(at..) else {
+        return at;
+    };
+    at + rest
+        .iter()
+        .position(|b| u16::from(*b) == stop)
+        .unwrap_or(rest.len())
 }
 
 // The number of a suffix, and 11 for a text that is none.
 fn suffix(t: &[u8]) -> u64
     ensures { result ≡ suffix_of t.now }
 {
-    if t.len() == 0 {
-        0
-    } else if same(t, b"i8") {
-        1
-    } else if same(t, b"i16") {
-        2
-    } else if same(t, b"i32") {
-        3
-    } else if same(t, b"i64") {
-        4
-    } else if same(t, b"u8") {
-        5
-    } else if same(t, b"u16") {
-        6
-    } else if same(t, b"u32") {
-        7
-    } else if same(t, b"u64") {
-        8
-    } else if same(t, b"f32") {
-        9
-    } else if same(t, b"f64") {
-        10
-    } else {
-        11
-    }
+    let number = SUFFIXES.iter().position(|name| same(t, name));
+    number.unwrap_or(SUFFIXES.len()) as u64
 }
 
 // The greatest value under an integer's suffix.
+#[tactic(auto, unfolding(crate::specs::Numbers::ceiling_of))]
 fn ceiling(suffix: u64) -> u64
     requires { suffix < 9 }
     ensures { result ≡ ceiling_of suffix }
@@ -172,69 +156,58 @@ fn ceiling(suffix: u64) -> u64
     CEILINGS[suffix as usize]
 }
 
-pub fn integer(t: &[u8]) -> Amount
+pub fn integer(t: &[u8]) -> Option<Amount>
     ensures { result ≡ integer_of t.now }
 {
-    if chars::is_digit(chars::byte_at(t, 0)) {
-        let e = chars::past(t, 0, Class::Figure);
-        let suffix = suffix(&t[e..]);
-        if suffix < 9 {
-            if let Number::Is { value, digits: _ } = number_of(
-                &t[..e],
-                Base::Ten,
-                ceiling(suffix),
-                true,
-            ) {
-                return Amount::Integer { value, suffix };
-            }
-        } else if suffix < 11 {
-            return Amount::Float(suffix);
-        }
+    if !chars::is_digit(chars::byte_at(t, 0)) {
+        return None;
     }
-    Amount::None
+    let (figures, rest) = t.split_at(chars::past(t, 0, Class::Figure));
+    let suffix = suffix(rest);
+    if suffix < F32 {
+        let (value, _) = number_of(figures, Base::Ten, ceiling(suffix), true)?;
+        return Some(Amount::Integer { value, suffix });
+    }
+    if suffix < NO_SUFFIX {
+        Some(Amount::Float(suffix))
+    } else {
+        None
+    }
 }
 
 // `.` and a digit.
-fn point_at(t: &[u8], at: usize) -> bool
+pub fn point_at(t: &[u8], at: usize) -> bool
     ensures { result ≡ point_at t.now at }
 {
-    if chars::byte_at(t, at) == PERIOD {
-        chars::is_digit(chars::byte_at(t, at + 1))
-    } else {
-        false
-    }
+    chars::byte_at(t, at) == PERIOD && chars::is_digit(chars::byte_at(t, at + 1))
 }
 
-pub fn float(t: &[u8]) -> Amount
+pub fn float(t: &[u8]) -> Option<Amount>
     ensures { result ≡ float_of t.now }
 {
-    if chars::is_digit(chars::byte_at(t, 0)) {
-        let dot = chars::past(t, 0, Class::Figure);
-        if point_at(t, dot) {
-            let e = chars::past(t, dot + 1, Class::Figure);
-            let suffix = suffix(&t[e..]);
-            if (suffix == 0) | (suffix == 9) | (suffix == 10) {
-                return Amount::Float(suffix);
-            }
-        }
+    if !chars::is_digit(chars::byte_at(t, 0)) {
+        return None;
     }
-    Amount::None
+    let dot = chars::past(t, 0, Class::Figure);
+    if !point_at(t, dot) {
+        return None;
+    }
+    let (_, rest) = t.split_at(chars::past(t, dot + 1, Class::Figure));
+    let suffix = suffix(rest);
+    if suffix == 0 || suffix == F32 || suffix == F64 {
+        return Some(Amount::Float(suffix));
+    }
+    None
 }
 
-pub fn hex(t: &[u8]) -> Number
+pub fn hex(t: &[u8]) -> Option<(u64, usize)>
     ensures { result ≡ hex_of t.now }
 {
-    if (chars::byte_at(t, 0) == 48) & (chars::byte_at(t, 1) == 120) {
-        return number_of(&t[2..], Base::Sixteen, UNSUFFIXED, false);
-    }
-    Number::None
+    number_of(t.strip_prefix(b"0x")?, Base::Sixteen, UNSUFFIXED, false)
 }
 
-pub fn as_number(t: &[u8]) -> Number
+pub fn as_number(t: &[u8]) -> Option<(u64, usize)>
     ensures { result ≡ as_of t.now }
 {
-    if (chars::byte_at(t, 0) == 65) & (chars::byte_at(t, 1) == 83) {
-        return number_of(&t[2..], Base::Ten, 4294967295, false);
-    }
-    Number::None
+    number_of(t.strip_prefix(b"AS")?, Base::Ten, MOST_AS, false)
 }

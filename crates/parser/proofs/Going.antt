@@ -1,4 +1,5 @@
 -- How a reader's steps follow the grammar: one law for each shape of step.
+use Rattle.std.specs.Prelude.{Ok, Err}
 use mathlib.Core.Path.{◌≡◌, refl, sym, ap, subst, ◌∙◌}
 use mathlib.Core.List.{List, [], ◌∷◌, ◌++◌}
 use mathlib.Core.Bool.{Bool, true, false, not, ◌&&◌, cond}
@@ -30,8 +31,7 @@ use Rattle.grammar.proofs.Open.{Left, Open, with_phrase, start, finish, pop, tak
 use Rattle.answers.specs.Source.{source}
 use Rattle.parser.specs.declared.Here.{Here}
 use Rattle.parser.specs.declared.Node.{Node}
-use Rattle.parser.specs.declared.Read.{Read}
-use Rattle.parser.specs.declared.Read.TheVariants.{Done, Refused}
+use Rattle.parser.specs.Results.{Read}
 use Rattle.parser.specs.Places.{word_of, start_of, end_of, next_of, passed, unused_at, refusal_at, later, size_from, put_over}
 use Rattle.parser.specs.Going.{language, token_of, Stands, as_row, store, Tally, bare, lone, many, Holds, with_token, with_node, count_of, row_over, Phrase, Going, Whole, Stopped, Either, Answers}
 use Rattle.parser.proofs.Standing.{solid, solid_word, peeks, next_small, is_token, says, lacking, goes_past, more_rows}
@@ -275,20 +275,20 @@ module _ {f : Phrase} {d : Counts} {ks : List Left} {h : Here} {t : List ℕ} {y
       record { place = h.place; why = past q; stops = passes (source f.text) language b.0 m p g.opened; says = ap (λ (x : Rattle.grammar.specs.Grammar.Look ℕ). said (length f.text) x (past q)) b.0; kept = kept_length g }
 
 -- answers, taken apart at each use
-pub whole_of : {f : Phrase} {j : ℕ} {r : Read} {t : List ℕ} {m : Node} {h : Here} → Answers f j r t → r ≡ Done m h → Whole f j m h t
+pub whole_of : {f : Phrase} {j : ℕ} {r : Read} {t : List ℕ} {m : Node} {h : Here} → Answers f j r t → r ≡ Ok (m, h) → Whole f j m h t
 whole_of {f} {j} {t = t} u e = subst (λ (x : Read). Either f j x t) e u.is
 
-pub stopped_of : {f : Phrase} {j : ℕ} {r : Read} {t : List ℕ} {e : Refusal} → Answers f j r t → r ≡ Refused e → Stopped f e t
+pub stopped_of : {f : Phrase} {j : ℕ} {r : Read} {t : List ℕ} {e : Refusal} → Answers f j r t → r ≡ Err e → Stopped f e t
 stopped_of {f} {j} {t = t} u e = subst (λ (x : Read). Either f j x t) e u.is
 
-pub done : {f : Phrase} {j : ℕ} {r : Read} {t : List ℕ} {m : Node} {h : Here} → r ≡ Done m h → Whole f j m h t → Answers f j r t
+pub done : {f : Phrase} {j : ℕ} {r : Read} {t : List ℕ} {m : Node} {h : Here} → r ≡ Ok (m, h) → Whole f j m h t → Answers f j r t
 done {f} {j} {t = t} e u = record { is = subst (λ (x : Read). Either f j x t) (sym e) u }
 
-pub stopped : {f : Phrase} {j : ℕ} {r : Read} {t : List ℕ} {e : Refusal} → r ≡ Refused e → Stopped f e t → Answers f j r t
+pub stopped : {f : Phrase} {j : ℕ} {r : Read} {t : List ℕ} {e : Refusal} → r ≡ Err e → Stopped f e t → Answers f j r t
 stopped {f} {j} {t = t} e u = record { is = subst (λ (x : Read). Either f j x t) (sym e) u }
 
 -- the refusal of a phrase in it, handed on
-pub relays : {f : Phrase} {d : Counts} {ks : List Left} {h : Here} {t : List ℕ} {y : Tally} {v k : ℕ} {ss : List Symbol} {o : Scope} {n j i : ℕ} {d' : Counts} {r : Read} {t' : List ℕ} {e : Refusal} → Going f (at d (phrase o n ∷ ss) ∷ ks) h t y v k → inside o d ≡ d' → Answers (next_phrase f d' n h t) j r t' → r ≡ Refused e → Answers f i r t'
+pub relays : {f : Phrase} {d : Counts} {ks : List Left} {h : Here} {t : List ℕ} {y : Tally} {v k : ℕ} {ss : List Symbol} {o : Scope} {n j i : ℕ} {d' : Counts} {r : Read} {t' : List ℕ} {e : Refusal} → Going f (at d (phrase o n ∷ ss) ∷ ks) h t y v k → inside o d ≡ d' → Answers (next_phrase f d' n h t) j r t' → r ≡ Err e → Answers f i r t'
 relays g q u e = stopped e (refuses_in g q (stopped_of u e))
 
 -- what is known of a phrase may be less: of one row only the span; of the rows to spare fewer

@@ -1,4 +1,5 @@
 -- How the definitions of a reader's answers follow from the tests that were made and the callees' answers.
+use Rattle.std.specs.Prelude.{Ok, Err}
 use mathlib.Core.Path.{◌≡◌, refl, sym, ap, ◌∙◌}
 use Prim.Native.Nat.{ℕ, ◌+◌, ◌-◌, ◌<◌, ◌≤◌}
 use mathlib.Core.Bool.{Bool, true, false, cond}
@@ -7,12 +8,10 @@ use native.Mathlib.Omega.{arith}
 use borrow.Author.Tests.{lt-ltb, le-ltb, eq-eqb, ne_eqb}
 use Rattle.tokens.specs.declared.Cursor.{Cursor}
 use Rattle.tokens.specs.declared.Refusal.{Refusal}
-use Rattle.tokens.specs.declared.Step.{Step}
-use Rattle.tokens.specs.declared.Step.TheVariants.{Taken, Refused}
+use Rattle.tokens.specs.Results.{Step}
 use Rattle.tokens.specs.Tokens.{step_at}
 use Rattle.parser.specs.declared.Here.{Here}
-use Rattle.parser.specs.declared.Read.{Read}
-use Rattle.parser.specs.declared.Read.TheVariants as read
+use Rattle.parser.specs.Results.{Read}
 use Rattle.parser.specs.Places.{up_to, refused_word, step_word, step_start, step_end, step_next, step_unused, word_of, start_of, here_at, refusal_at, unused, passed, past, token_node, list_node, took_by, took, expected, under, opening, closing}
 use Rattle.parser.specs.Counted.{lessened}
 
@@ -51,65 +50,65 @@ refused_other n e f k = second _ (ne_eqb _ _ e) (second _ (ne_eqb _ _ f) k)
 
 -- a step taken apart
 module _ {step : Step} where
-  pub word_taken : {w a : ℕ} {next : Cursor} → step ≡ Taken w a next → w ≡ step_word step
+  pub word_taken : {w a : ℕ} {next : Cursor} → step ≡ Ok (w, a, next) → w ≡ step_word step
   unfolding step_word
   word_taken e = rw e refl
 
-  pub word_refused : {f : Refusal} {r : ℕ} → step ≡ Refused f → r ≡ refused_word f.number → r ≡ step_word step
+  pub word_refused : {f : Refusal} {r : ℕ} → step ≡ Err f → r ≡ refused_word f.number → r ≡ step_word step
   unfolding step_word
   word_refused e k = rw e k
 
-  pub start_taken : {w a : ℕ} {next : Cursor} → step ≡ Taken w a next → step_start step ≡ a
+  pub start_taken : {w a : ℕ} {next : Cursor} → step ≡ Ok (w, a, next) → step_start step ≡ a
   unfolding step_start
   start_taken e = rw e refl
 
-  pub end_taken : {w a : ℕ} {next : Cursor} → step ≡ Taken w a next → step_end step ≡ next.at
+  pub end_taken : {w a : ℕ} {next : Cursor} → step ≡ Ok (w, a, next) → step_end step ≡ next.at
   unfolding step_end
   end_taken e = rw e refl
 
-  pub next_taken : (place : ℕ) {w a : ℕ} {next : Cursor} → step ≡ Taken w a next → step_next place step ≡ next.at
+  pub next_taken : (place : ℕ) {w a : ℕ} {next : Cursor} → step ≡ Ok (w, a, next) → step_next place step ≡ next.at
   unfolding step_next
   next_taken place e = rw e refl
 
-  pub end_refused : {f : Refusal} → step ≡ Refused f → step_end step ≡ f.end
+  pub end_refused : {f : Refusal} → step ≡ Err f → step_end step ≡ f.end
   unfolding step_end
   end_refused e = rw e refl
 
-  pub start_refused : {f : Refusal} → step ≡ Refused f → step_start step ≡ f.start
+  pub start_refused : {f : Refusal} → step ≡ Err f → step_start step ≡ f.start
   unfolding step_start
   start_refused e = rw e refl
 
-  pub took_taken : {w a : ℕ} {next : Cursor} {x r : Read} (y : Read) → step ≡ Taken w a next → r ≡ x → r ≡ took_by step x y
+  pub took_taken : {w a : ℕ} {next : Cursor} {x r : Read} (y : Read) → step ≡ Ok (w, a, next) → r ≡ x → r ≡ took_by step x y
   unfolding took_by
   took_taken y e k = rw e k
 
-  pub took_refused : {f : Refusal} (x : Read) {y r : Read} → step ≡ Refused f → r ≡ y → r ≡ took_by step x y
+  pub took_refused : {f : Refusal} (x : Read) {y r : Read} → step ≡ Err f → r ≡ y → r ≡ took_by step x y
   unfolding took_by
   took_refused x e k = rw e k
 
-  pub unused_taken : {w a : ℕ} {next : Cursor} {r : Read} → step ≡ Taken w a next → r ≡ read.Refused (refusal_at 6 a next.at) → r ≡ read.Refused (step_unused step)
+  pub unused_taken : {w a : ℕ} {next : Cursor} {r : Read} → step ≡ Ok (w, a, next) → r ≡ Err (refusal_at 6 a next.at) → r ≡ Err (step_unused step)
   unfolding step_unused
   unused_taken e k = rw e k
 
-  pub unused_quote : {f : Refusal} {r : Read} → step ≡ Refused f → f.number ≡ 5 → r ≡ read.Refused (refusal_at 6 f.start f.end) → r ≡ read.Refused (step_unused step)
+  pub unused_quote : {f : Refusal} {r : Read} → step ≡ Err f → f.number ≡ 5 → r ≡ Err (refusal_at 6 f.start f.end) → r ≡ Err (step_unused step)
   unfolding step_unused
-  unused_quote e n k = k ∙ ap read.Refused (rw e (first _ (eq-eqb _ _ n) refl))
+  unused_quote e n k = k ∙ ap Err (rw e (first _ (eq-eqb _ _ n) refl))
 
-  pub unused_other : {f : Refusal} {r : Read} → step ≡ Refused f → (f.number ≡ 5 → ⊥) → r ≡ read.Refused f → r ≡ read.Refused (step_unused step)
+  pub unused_other : {f : Refusal} {r : Read} → step ≡ Err f → (f.number ≡ 5 → ⊥) → r ≡ Err f → r ≡ Err (step_unused step)
   unfolding step_unused
-  unused_other e n k = k ∙ ap read.Refused (rw e (second _ (ne_eqb _ _ n) refl))
+  unused_other e n k = k ∙ ap Err (rw e (second _ (ne_eqb _ _ n) refl))
 
 -- past a token whose step was taken apart
-pub past_taken : (s : List ℕ) (h : Here) {w a : ℕ} {next : Cursor} {z : Here} → h.step ≡ Taken w a next → z ≡ here_at s next.at h.rows → read.Done (record { kind = 0; start = a; end = next.at; children = 0 }) z ≡ past s h
+pub past_taken : (s : List ℕ) (h : Here) {w a : ℕ} {next : Cursor} {z : Here} → h.step ≡ Ok (w, a, next) → z ≡ here_at s next.at h.rows → Ok (record { kind = 0; start = a; end = next.at; children = 0 }, z) ≡ past s h
 past_taken s h {w} {a} {next} {z} e k =
     let p = sym (start_taken e) in
     let q = sym (end_taken e) in
     let n = sym (next_taken h.place e) in
-    ap (λ (x : ℕ). read.Done (record { kind = 0; start = x; end = next.at; children = 0 }) z) p ∙ ap (λ (x : ℕ). read.Done (record { kind = 0; start = start_of h; end = x; children = 0 }) z) q ∙ ap (read.Done (token_node h)) (k ∙ ap (λ (x : ℕ). here_at s x h.rows) n)
+    ap (λ (x : ℕ). Ok (record { kind = 0; start = x; end = next.at; children = 0 }, z)) p ∙ ap (λ (x : ℕ). Ok (record { kind = 0; start = start_of h; end = x; children = 0 }, z)) q ∙ ap (λ (z : Here). Ok (token_node h, z)) (k ∙ ap (λ (x : ℕ). here_at s x h.rows) n)
 
-pub list_taken : (s : List ℕ) (h : Here) (a' c : ℕ) {w a : ℕ} {next : Cursor} {z : Here} → h.step ≡ Taken w a next → z ≡ here_at s next.at h.rows → read.Done (record { kind = 0; start = a'; end = next.at; children = c }) z ≡ read.Done (list_node h a' c) (passed s h)
+pub list_taken : (s : List ℕ) (h : Here) (a' c : ℕ) {w a : ℕ} {next : Cursor} {z : Here} → h.step ≡ Ok (w, a, next) → z ≡ here_at s next.at h.rows → ◌≡◌ {A = Read} (Ok (record { kind = 0; start = a'; end = next.at; children = c }, z)) (Ok (list_node h a' c, passed s h))
 list_taken s h a' c {w} {a} {next} {z} e k =
-    ap (λ (x : ℕ). read.Done (record { kind = 0; start = a'; end = x; children = c }) z) (sym (end_taken e)) ∙ ap (read.Done (list_node h a' c)) (k ∙ ap (λ (x : ℕ). here_at s x h.rows) (sym (next_taken h.place e)))
+    ap (λ (x : ℕ). Ok (record { kind = 0; start = a'; end = x; children = c }, z)) (sym (end_taken e)) ∙ ap (λ (z : Here). Ok (list_node h a' c, z)) (k ∙ ap (λ (x : ℕ). here_at s x h.rows) (sym (next_taken h.place e)))
 
 module _ (s : List ℕ) (h : Here) (w : ℕ) {r : Read} where
   pub expected_is : word_of h ≡ w → r ≡ took s h → r ≡ expected s h w
@@ -128,7 +127,7 @@ module _ (s : List ℕ) (h : Here) (w : ℕ) {r : Read} where
   unfolding opening
   opening_not n m k = second _ (ne_eqb _ _ m) k
 
-  pub closing_is : (a c : ℕ) → word_of h ≡ w → r ≡ took_by h.step (read.Done (list_node h a c) (passed s h)) (unused h) → r ≡ closing s h w a c
+  pub closing_is : (a c : ℕ) → word_of h ≡ w → r ≡ took_by h.step (Ok (list_node h a c, passed s h)) (unused h) → r ≡ closing s h w a c
   unfolding closing
   closing_is a c e k = first _ (eq-eqb _ _ e) k
 
@@ -137,27 +136,27 @@ module _ (s : List ℕ) (h : Here) (w : ℕ) {r : Read} where
   closing_not a c m k = second _ (ne_eqb _ _ m) k
 
 module _ (s : List ℕ) (h : Here) (n : ℕ) {r : Read} where
-  pub under_in : (n ≡ 0 → ⊥) → {w a : ℕ} {next : Cursor} → h.step ≡ Taken w a next → r ≡ took s h → r ≡ under s h n
+  pub under_in : (n ≡ 0 → ⊥) → {w a : ℕ} {next : Cursor} → h.step ≡ Ok (w, a, next) → r ≡ took s h → r ≡ under s h n
   unfolding under took_by
   under_in e f k = rw f (second _ (ne_eqb _ _ e) (k ∙ rw f refl))
 
-  pub under_out : n ≡ 0 → {w a : ℕ} {next : Cursor} → h.step ≡ Taken w a next → r ≡ read.Refused (refusal_at 9 a next.at) → r ≡ under s h n
+  pub under_out : n ≡ 0 → {w a : ℕ} {next : Cursor} → h.step ≡ Ok (w, a, next) → r ≡ Err (refusal_at 9 a next.at) → r ≡ under s h n
   unfolding under took_by step_start step_end
   under_out e f k = rw f (first _ (eq-eqb _ _ e) k)
 
-  pub under_none : {f : Refusal} → h.step ≡ Refused f → r ≡ unused h → r ≡ under s h n
+  pub under_none : {f : Refusal} → h.step ≡ Err f → r ≡ unused h → r ≡ under s h n
   unfolding under
   under_none f k = took_refused _ f k
 
 -- under a limit that leaves some
-pub under_on : (s : List ℕ) (h : Here) (n : ℕ) → (n ≡ 0 → ⊥) → {w a : ℕ} {next : Cursor} → h.step ≡ Taken w a next → past s h ≡ under s h n
+pub under_on : (s : List ℕ) (h : Here) (n : ℕ) → (n ≡ 0 → ⊥) → {w a : ℕ} {next : Cursor} → h.step ≡ Ok (w, a, next) → past s h ≡ under s h n
 unfolding under took_by
 under_on s h n e f = rw f (second _ (ne_eqb _ _ e) refl)
 
 -- behind a token that was taken apart
-pub took_here : (s : List ℕ) (h : Here) {z : Here} {w a : ℕ} {next : Cursor} → h.step ≡ Taken w a next → z ≡ here_at s next.at h.rows → z ≡ passed s h
+pub took_here : (s : List ℕ) (h : Here) {z : Here} {w a : ℕ} {next : Cursor} → h.step ≡ Ok (w, a, next) → z ≡ here_at s next.at h.rows → z ≡ passed s h
 took_here s h e k = k ∙ ap (λ (x : ℕ). here_at s x h.rows) (sym (next_taken h.place e))
 
-pub stepped_here : (s : List ℕ) (h : Here) {z : Here} {k : Step} {w a : ℕ} {next : Cursor} → h.step ≡ Taken w a next → k ≡ step_at s next.at → z ≡ record { step = k; place = next.at; rows = h.rows } → z ≡ passed s h
+pub stepped_here : (s : List ℕ) (h : Here) {z : Here} {k : Step} {w a : ℕ} {next : Cursor} → h.step ≡ Ok (w, a, next) → k ≡ step_at s next.at → z ≡ record { step = k; place = next.at; rows = h.rows } → z ≡ passed s h
 unfolding here_at
 stepped_here s h {next = next} e q i = took_here s h e (i ∙ ap (λ (x : Step). record { step = x; place = next.at; rows = h.rows }) q)

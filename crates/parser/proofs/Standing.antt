@@ -1,4 +1,5 @@
 -- Where a reader stands, as the grammar sees it: the token there, the word that is peeked at, what is said of it.
+use Rattle.std.specs.Prelude.{Ok, Err}
 use mathlib.Core.Path.{◌≡◌, refl, sym, ap, subst, ◌∙◌}
 use mathlib.Core.List.{List, [], ◌∷◌}
 use mathlib.Core.Bool.{Bool, true, false, not, ◌&&◌, cond}
@@ -9,8 +10,7 @@ use lib.ListN.{length}
 use native.Mathlib.Omega.{arith}
 use Rattle.tokens.specs.declared.Cursor.{Cursor}
 use Rattle.tokens.specs.declared.Refusal.{Refusal}
-use Rattle.tokens.specs.declared.Step.{Step}
-use Rattle.tokens.specs.declared.Step.TheVariants.{Taken, Refused}
+use Rattle.tokens.specs.Results.{Step}
 use Rattle.tokens.specs.Words.{code_of}
 use Rattle.tokens.specs.Tokens.{step_at}
 use Rattle.values.specs.Literals.{literal_of}
@@ -24,7 +24,7 @@ use Rattle.tokens.proofs.Steps.{taken_good}
 use Rattle.answers.specs.Source.{source, look_of}
 use Rattle.answers.proofs.Ahead.{Steps, steps_token, steps_over, steps_quote, steps_wrong, step_goes}
 use Rattle.parser.specs.declared.Here.{Here}
-use Rattle.parser.specs.declared.Read.{Read}
+use Rattle.parser.specs.Results.{Read}
 use Rattle.parser.specs.Places.{refused_word, step_word, step_start, step_end, step_next, step_unused, word_of, start_of, end_of, next_of, bumped, here_at, passed, later, refusal_at, unused_at, took_by}
 use Rattle.parser.specs.Going.{language, token_of, Stands}
 
@@ -43,17 +43,17 @@ data Sees (s : List ℕ) (h : Here) : Look ℕ → Type 0 where
 
 -- of a refusal only its number counts
 abbrev SeesRefused : List ℕ → ℕ → ℕ → Refusal → Type 0
-SeesRefused s place rows r = Sees s (record { step = Refused r; place = place; rows = rows }) (look_of s (Refused r))
+SeesRefused s place rows r = Sees s (record { step = Err r; place = place; rows = rows }) (look_of s (Err r))
 
 numbered : (s : List ℕ) (place rows : ℕ) (r : Refusal) {n : ℕ} → r.number ≡ n → SeesRefused s place rows (refusal_at n r.start r.end) → SeesRefused s place rows r
 numbered s place rows r q = subst (λ (y : ℕ). SeesRefused s place rows (refusal_at y r.start r.end)) (sym q)
 
 sees_of : (s : List ℕ) (place rows : ℕ) (k : Step) → Steps s place k → Sees s (record { step = k; place = place; rows = rows }) (look_of s k)
 unfolding literal_of code_of refused_word step_word step_start step_end step_next step_unused
-sees_of s place rows (Taken w a next) (steps_token h m p v) = sees_token h m p (omega arith) refl
-sees_of s place rows (Refused r) steps_over = sees_over refl refl refl
-sees_of s place rows (Refused r) (steps_quote q l m) = numbered s place rows r q (sees_token l m (omega arith) (omega arith) refl)
-sees_of s place rows (Refused r) (steps_wrong q) = numbered s place rows r q (sees_wrong (refusal_at 4 r.start r.end) refl refl refl)
+sees_of s place rows (Ok (w, a, next)) (steps_token h m p v) = sees_token h m p (omega arith) refl
+sees_of s place rows (Err r) steps_over = sees_over refl refl refl
+sees_of s place rows (Err r) (steps_quote q l m) = numbered s place rows r q (sees_token l m (omega arith) (omega arith) refl)
+sees_of s place rows (Err r) (steps_wrong q) = numbered s place rows r q (sees_wrong (refusal_at 4 r.start r.end) refl refl refl)
 
 sees_at : (s : List ℕ) (place rows : ℕ) → Sees s (here_at s place rows) ((source s).look place)
 unfolding here_at
@@ -157,7 +157,7 @@ pub lexed_solid : (w : List ℕ) → T (lexed w) → T (solid w)
 lexed_solid w t = and_r (not (one_of 90 w)) (solid w) t
 
 -- where one of them stands, the lexer took a token
-no_refusal : {A : Type 0} (r : Refusal) (w : List ℕ) → T (lexed w) → T (one_of (step_word (Refused r)) w) → A
+no_refusal : {A : Type 0} (r : Refusal) (w : List ℕ) → T (lexed w) → T (one_of (step_word (Err r)) w) → A
 unfolding step_word refused_word
 no_refusal r w t m = absurd (go (eqb r.number 11) (eqb r.number 5) m)
   where
@@ -166,19 +166,19 @@ no_refusal r w t m = absurd (go (eqb r.number 11) (eqb r.number 5) m)
     go false true m = T_not (one_of 90 w) (and_l (not (one_of 90 w)) (solid w) t) m
     go false false m = (solid_word 99 w (lexed_solid w t) m).1 refl
 
-pub never_untaken : {A : Type 0} {k : Step} {r : Refusal} (w : List ℕ) → T (lexed w) → T (one_of (step_word k) w) → k ≡ Refused r → A
+pub never_untaken : {A : Type 0} {k : Step} {r : Refusal} (w : List ℕ) → T (lexed w) → T (one_of (step_word k) w) → k ≡ Err r → A
 never_untaken {r = r} w t m e = no_refusal r w t (subst (λ (x : Step). T (one_of (step_word x) w)) e m)
 
 pub is_taken : (k : Step) (w : List ℕ) → T (lexed w) → T (one_of (step_word k) w) → (x y : Read) → took_by k x y ≡ x
 unfolding took_by
-is_taken (Taken v a next) w t m x y = refl
-is_taken (Refused r) w t m x y = no_refusal r w t m
+is_taken (Ok (v, a, next)) w t m x y = refl
+is_taken (Err r) w t m x y = no_refusal r w t m
 
 -- a token ends where the next place is
 pub ends_next : (k : Step) (place : ℕ) (w : List ℕ) → T (solid w) → T (one_of (step_word k) w) → step_end k ≡ step_next place k
 unfolding step_word refused_word step_end step_next
-ends_next (Taken v a next) place w t m = refl
-ends_next (Refused r) place w t m = go (eqb r.number 11) (eqb r.number 5) m
+ends_next (Ok (v, a, next)) place w t m = refl
+ends_next (Err r) place w t m = go (eqb r.number 11) (eqb r.number 5) m
   where
     go : (b c : Bool) → T (one_of (cond b 0 (cond c 90 99)) w) → r.end ≡ cond c r.end (place + 1)
     go true c m = absurd ((solid_word 0 w t m).0 refl)
@@ -231,16 +231,16 @@ pub is_word : {x c : ℕ} → x ≡ c → T (one_of x (c ∷ []))
 is_word {x} {c} e = or_l (eqb x c) false (subst (λ (y : ℕ). T (eqb x y)) e (eqb_refl x))
 
 -- what the lexer takes is no `f"`
-pub f_quote_untaken : {A : Type 0} {s : List ℕ} {h : Here} {w a : ℕ} {next : Cursor} → Stands s h → word_of h ≡ 90 → h.step ≡ Taken w a next → A
+pub f_quote_untaken : {A : Type 0} {s : List ℕ} {h : Here} {w a : ℕ} {next : Cursor} → Stands s h → word_of h ≡ 90 → h.step ≡ Ok (w, a, next) → A
 unfolding here_at step_word
 f_quote_untaken {s = s} {h = h} {w} {a} {next} g e q = absurd (go (step_at s h.place) (step_goes s h.place) (sym (ap (λ (x : Here). x.step) g.seen) ∙ q))
   where
     is : 90 ≡ w
     is = sym e ∙ ap step_word q
 
-    go : (k : Step) → Steps s h.place k → k ≡ Taken w a next → ⊥
-    go (Taken v b z) (steps_token x y p u) i = let j : v ≡ w = cc in omega (arith, u, j, is)
-    go (Refused r) x i = let z : ◌≡◌ {A = ℕ} 0 1 = cc in omega arith
+    go : (k : Step) → Steps s h.place k → k ≡ Ok (w, a, next) → ⊥
+    go (Ok (v, b, z)) (steps_token x y p u) i = let j : v ≡ w = ap step_word i in omega (arith, u, j, is)
+    go (Err r) x i = let z : ◌≡◌ {A = ℕ} 0 1 = cc in omega arith
 
 -- where a token starts
 pub start_small : {s : List ℕ} {h : Here} (w : List ℕ) → T (lexed w) → T (one_of (word_of h) w) → Stands s h → start_of h < 65536
@@ -248,5 +248,5 @@ unfolding here_at step_start
 start_small {s} {h} w t m g = go h.step refl
   where
     go : (k : Step) → h.step ≡ k → step_start k < 65536
-    go (Taken v a next) e = let x = taken_good s h.place (sym (ap (λ (x : Here). x.step) g.seen) ∙ e) in let y = g.short in omega (arith, x.1, x.2, y)
-    go (Refused r) e = never_untaken w t m e
+    go (Ok (v, a, next)) e = let x = taken_good s h.place (sym (ap (λ (x : Here). x.step) g.seen) ∙ e) in let y = g.short in omega (arith, x.1, x.2, y)
+    go (Err r) e = never_untaken w t m e

@@ -1,7 +1,7 @@
 -- What is true while a phrase is being read (`Going`), when it was read (`Whole`) and when it is refused (`Stopped`):
 -- where the reader stands, what the grammar's table still asks for, the rows written so far, and what the lent table
 -- holds then.
-use Rattle.std.specs.Prelude.{◌≡◌, List, [], ◌∷◌, true, ℕ, ◌+◌, ◌*◌, ◌≤◌, length}
+use Rattle.std.specs.Prelude.{Ok, Err, ◌≡◌, List, [], ◌∷◌, true, ℕ, ◌+◌, ◌*◌, ◌≤◌, length}
 use Rattle.std.proofs.Math.Option.{Option, none, some}
 use Rattle.std.proofs.Math.Seq.{slice}
 use Rattle.tokens.specs.declared.Refusal.{Refusal}
@@ -21,8 +21,7 @@ use Rattle.grammar.proofs.Open.{Left, Open}
 use Rattle.answers.specs.Source.{source, token_for}
 use Rattle.parser.specs.declared.Here.{Here}
 use Rattle.parser.specs.declared.Node.{Node}
-use Rattle.parser.specs.declared.Read.{Read}
-use Rattle.parser.specs.declared.Read.TheVariants.{Done, Refused}
+use Rattle.parser.specs.Results.{Read}
 use Rattle.parser.specs.Places.{word_of, start_of, end_of, next_of, here_at}
 
 -- The grammar that every reader below a tree's follows: the old one of C-22, in which `test` is a declaration. Below a declaration both are the same.
@@ -137,8 +136,8 @@ pub record Stopped (f : Phrase) (r : Refusal) (t : List ℕ) : Type 0 where
 -- What a reader of one kind of phrase promises: if it answers `Done`, the phrase was read; if `Refused`, it is refused
 -- so.
 abbrev pub Either : Phrase → ℕ → Read → List ℕ → Type 0
-Either f k (Done m h) t = Whole f k m h t
-Either f k (Refused r) t = Stopped f r t
+Either f k (Ok (m, h)) t = Whole f k m h t
+Either f k (Err r) t = Stopped f r t
 
 pub record Answers (f : Phrase) (k : ℕ) (r : Read) (t : List ℕ) : Type 0 where
   pub is : Either f k r t

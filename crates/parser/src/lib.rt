@@ -1,18 +1,16 @@
 // What every reader stands on: the token that it stands at, the limits, how it goes past a token, writes a row, refuses.
 #![tactic(auto)]
 
-ghost use Rattle.std.specs.Prelude.{◌≡◌, ◌≤◌, length};
+ghost use Rattle.std.specs.Prelude.{Some, None, Ok, Err, ◌≡◌, ◌≤◌, length};
 ghost use Rattle.rows.specs.Rows.{put_row};
 ghost use Rattle.std.proofs.Math.Seq.{slice};
 ghost use Rattle.texts.specs.Parts.{part_at};
 ghost use Rattle.texts.specs.Texts.{text_of};
 ghost use Rattle.parser.specs.Places.{bumped, refused_word, word_of, end_of, here_at, refusal_at, unused, took, under, expected, opening, closing, later, node_of, size_from, put_over, plain_row, part_row, piece_read, piece_table, part_read, part_table};
 ghost use Rattle.parser.specs.Counted.{lessened, opened, signed, plain, headed, chained, unchained};
-ghost use Rattle.parser.specs.declared.Read.TheVariants.{Done, Refused};
 
 use chars::refusal;
 use rows::{Row, kind};
-use strings::Size;
 use texts::Part;
 use tokens::{Cursor, Refusal, Step, word};
 
@@ -20,7 +18,7 @@ use tokens::{Cursor, Refusal, Step, word};
 const MANY_ROWS: usize = 300000;
 
 // Where a reader stands: the lexer's step from a place on, that place, and the rows written so far.
-#[derive(Clone, Copy)]
+#[derive(Clone, Copy, Debug, PartialEq, Eq)]
 pub struct Here {
     pub step: Step,
     pub place: usize,
@@ -32,10 +30,9 @@ impl Here {
     pub fn word(self) -> u64
         ensures { result ≡ word_of self }
     {
-        let step = self.step;
-        match step {
-            Step::Taken(word, _, _) => word,
-            Step::Refused(why) => word_of_refused(why.number),
+        match self.step {
+            Ok((word, _, _)) => word,
+            Err(why) => word_of_refused(why.number),
         }
     }
 
@@ -43,10 +40,9 @@ impl Here {
     fn end(self) -> usize
         ensures { result ≡ end_of self }
     {
-        let step = self.step;
-        match step {
-            Step::Taken(_, _, next) => next.at,
-            Step::Refused(why) => why.end,
+        match self.step {
+            Ok((_, _, next)) => next.at,
+            Err(why) => why.end,
         }
     }
 
@@ -66,11 +62,9 @@ impl Here {
     pub fn later(self) -> Here
         ensures { result ≡ later self }
     {
-        let step = self.step;
         Here {
-            step,
-            place: self.place,
             rows: row_more(self.rows),
+            ..self
         }
     }
 }
@@ -87,7 +81,7 @@ fn word_of_refused(number: u64) -> u64
 }
 
 // How many brackets, prefixes in a row, `else if` of a chain and heads may still be opened.
-#[derive(Clone, Copy)]
+#[derive(Clone, Copy, Debug, PartialEq, Eq)]
 pub struct Limits {
     pub brackets: u8,
     pub signs: u8,
@@ -96,7 +90,7 @@ pub struct Limits {
 }
 
 // A phrase's row, or 0 and the span of a token or list; a list's items.
-#[derive(Clone, Copy)]
+#[derive(Clone, Copy, Debug, PartialEq, Eq)]
 pub struct Node {
     pub kind: u64,
     pub start: usize,
@@ -104,27 +98,22 @@ pub struct Node {
     pub children: u64,
 }
 
-#[derive(Clone, Copy)]
-pub enum Read {
-    Done(Node, Here),
-    Refused(Refusal),
-}
+// What was read, and where the reader stands behind it; or a refusal.
+pub type Read = Result<(Node, Here), Refusal>;
 
 // A statement, by how it ended: with its `;`; one of the four without; another expr without, which is the last.
-#[derive(Clone, Copy)]
+#[derive(Clone, Copy, Debug, PartialEq, Eq)]
 pub enum Stmt {
     Ended(Here),
     Four(Here),
     Last(Here),
-    Refused(Refusal),
 }
 
 // An arm, by whether another may follow.
-#[derive(Clone, Copy)]
+#[derive(Clone, Copy, Debug, PartialEq, Eq)]
 pub enum Arm {
     Followed(Here),
     Last(Here),
-    Refused(Refusal),
 }
 
 // The limits.
@@ -165,9 +154,7 @@ impl Limits {
     {
         Limits {
             brackets: one_less(self.brackets),
-            signs: LIMIT,
-            chain: self.chain,
-            heads: self.heads,
+            ..self.plain()
         }
     }
 
@@ -176,10 +163,8 @@ impl Limits {
         ensures { result ≡ signed self }
     {
         Limits {
-            brackets: self.brackets,
             signs: one_less(self.signs),
-            chain: self.chain,
-            heads: self.heads,
+            ..self
         }
     }
 
@@ -188,10 +173,8 @@ impl Limits {
         ensures { result ≡ plain self }
     {
         Limits {
-            brackets: self.brackets,
             signs: LIMIT,
-            chain: self.chain,
-            heads: self.heads,
+            ..self
         }
     }
 
@@ -200,10 +183,8 @@ impl Limits {
         ensures { result ≡ headed self }
     {
         Limits {
-            brackets: self.brackets,
-            signs: LIMIT,
-            chain: self.chain,
             heads: one_less(self.heads),
+            ..self.plain()
         }
     }
 
@@ -212,10 +193,8 @@ impl Limits {
         ensures { result ≡ chained self }
     {
         Limits {
-            brackets: self.brackets,
-            signs: LIMIT,
             chain: one_less(self.chain),
-            heads: self.heads,
+            ..self.plain()
         }
     }
 
@@ -224,10 +203,8 @@ impl Limits {
         ensures { result ≡ unchained self }
     {
         Limits {
-            brackets: self.brackets,
-            signs: LIMIT,
             chain: LIMIT,
-            heads: self.heads,
+            ..self.plain()
         }
     }
 }
@@ -247,23 +224,22 @@ pub fn look(s: &[u8], cursor: Cursor, rows: usize) -> Here
 }
 
 pub fn refuse(number: u64, start: usize, end: usize) -> Read
-    ensures { result ≡ Refused (refusal_at number start end) }
+    ensures { result ≡ Err (refusal_at number start end) }
 {
-    Read::Refused(Refusal { number, start, end })
+    Err(Refusal { number, start, end })
 }
 
 // 6 at a token; where there is none, what the lexer refuses: 11 at the end of the source.
 pub fn unusable(here: Here) -> Read
     ensures { result ≡ unused here }
 {
-    let step = here.step;
-    match step {
-        Step::Taken(_, start, next) => refuse(refusal::UNUSABLE, start, next.at),
-        Step::Refused(why) => {
+    match here.step {
+        Ok((_, start, next)) => refuse(refusal::UNUSABLE, start, next.at),
+        Err(why) => {
             if why.number == refusal::F_STRING {
                 return refuse(refusal::UNUSABLE, why.start, why.end);
             }
-            Read::Refused(why)
+            Err(why)
         }
     }
 }
@@ -272,11 +248,10 @@ pub fn unusable(here: Here) -> Read
 pub fn take(s: &[u8], here: Here) -> Read
     ensures { result ≡ took s.now here }
 {
-    let step = here.step;
-    let Step::Taken(_, start, next) = step else {
+    let Ok((_, start, next)) = here.step else {
         return unusable(here);
     };
-    Read::Done(
+    Ok((
         Node {
             kind: kind::NONE,
             start,
@@ -284,7 +259,7 @@ pub fn take(s: &[u8], here: Here) -> Read
             children: 0,
         },
         look(s, next, here.rows),
-    )
+    ))
 }
 
 // Goes past a token that has to have a word.
@@ -301,8 +276,7 @@ pub fn expect(s: &[u8], here: Here, word: u64) -> Read
 pub fn deeper(s: &[u8], here: Here, left: u8) -> Read
     ensures { result ≡ under s.now here left }
 {
-    let step = here.step;
-    let Step::Taken(_, start, next) = step else {
+    let Ok((_, start, next)) = here.step else {
         return unusable(here);
     };
     if left == 0 {
@@ -328,11 +302,10 @@ pub fn close(s: &[u8], here: Here, word: u64, start: usize, children: u64) -> Re
     if here.word() != word {
         return unusable(here);
     }
-    let step = here.step;
-    let Step::Taken(_, _, next) = step else {
+    let Ok((_, _, next)) = here.step else {
         return unusable(here);
     };
-    Read::Done(
+    Ok((
         Node {
             kind: kind::NONE,
             start,
@@ -340,7 +313,7 @@ pub fn close(s: &[u8], here: Here, word: u64, start: usize, children: u64) -> Re
             children,
         },
         look(s, next, here.rows),
-    )
+    ))
 }
 
 // A row without value and detail.
@@ -359,10 +332,10 @@ pub fn plain_row(kind: u64, start: usize, end: usize, children: u64) -> Row
 
 // Writes a phrase's row.
 pub fn finish(table: &mut [u64], row: Row, here: Here, since: usize) -> Read
-    ensures { (result ≡ Done (node_of row) (later here)) × (table.new ≡ put_over table.old here row since) }
+    ensures { (result ≡ Ok (node_of row, later here)) × (table.new ≡ put_over table.old here row since) }
 {
     rows::put(table, here.rows, row, here.size(since));
-    Read::Done(
+    Ok((
         Node {
             kind: row.kind,
             start: row.start,
@@ -370,7 +343,7 @@ pub fn finish(table: &mut [u64], row: Row, here: Here, since: usize) -> Read
             children: 0,
         },
         here.later(),
-    )
+    ))
 }
 
 // The row of a piece of text, whose value is its number of bytes in the end.
@@ -400,12 +373,12 @@ fn text_row(
     requires { (start ≤ end) × (end ≤ length s.now) }
     ensures { (result ≡ piece_read s.now rows start word end next (text_of (slice start end s.now))) × (table.new ≡ piece_table table.old rows start end (text_of (slice start end s.now))) }
 {
-    let Size::Is(count) = texts::text(&s[start..end]) else {
+    let Some(count) = texts::text(&s[start..end]) else {
         return refuse(refusal::VALUELESS, start, end);
     };
     let cursor = Cursor { at: next };
     if count == 0 {
-        return Read::Done(
+        return Ok((
             Node {
                 kind: word,
                 start,
@@ -413,10 +386,10 @@ fn text_row(
                 children: 0,
             },
             look(s, cursor, rows),
-        );
+        ));
     }
     rows::put(table, rows, part_row(start, end, count), 1);
-    Read::Done(
+    Ok((
         Node {
             kind: word,
             start,
@@ -424,7 +397,7 @@ fn text_row(
             children: 1,
         },
         look(s, cursor, row_more(rows)),
-    )
+    ))
 }
 
 // Goes past a token and the piece of text behind it, before a hole or before the quote.
@@ -432,10 +405,11 @@ pub fn piece(s: &[u8], table: &mut [u64], here: Here) -> Read
     ensures { (result ≡ part_read s.now here.rows (end_of here) (part_at s.now (end_of here))) × (table.new ≡ part_table s.now table.old here.rows (end_of here) (part_at s.now (end_of here))) }
 {
     let start = here.end();
-    let part = texts::f_string_part(s, start);
+    let Some(part) = texts::f_string_part(s, start) else {
+        return refuse(refusal::ENDS_EARLY, s.len(), s.len());
+    };
     match part {
         Part::Before(end) => text_row(s, table, here.rows, start, end, end, word::TEXT_THEN_HOLE),
         Part::Ends(end) => text_row(s, table, here.rows, start, end, end + 1, word::LAST_TEXT),
-        Part::None => refuse(refusal::ENDS_EARLY, s.len(), s.len()),
     }
 }

@@ -6,101 +6,109 @@ ghost use Rattle.grammar.specs.Grammar.{one_of};
 ghost use Rattle.canon.specs.Trees.{Forest, copied};
 ghost use Rattle.canon.specs.Layout as canon;
 ghost use Rattle.canon.specs.Text.{inner};
-ghost use Rattle.places.specs.Meant.{unless_of, meant, mark};
+ghost use Rattle.places.specs.Meant.{mark, meant, unless_of};
 
 use rows::kind;
 
 pub mod under;
 
+// With what nothing may begin: nothing, one of the four, `{`.
+#[derive(Clone, Copy, Debug, PartialEq, Eq)]
+pub enum Unless {
+    Nothing,
+    Four,
+    Brace,
+}
+
 // What a place asks: a level at least; whether a record may stand; whether a path may; with which words nothing may begin there; whether an arm follows.
-#[derive(Clone, Copy)]
+#[derive(Clone, Copy, Debug, PartialEq, Eq)]
 pub struct Place {
     pub level: u64,
     pub records: bool,
     pub path: bool,
-    pub unless: u64,
+    pub unless: Unless,
     pub more: bool,
 }
 
-// With what nothing may begin: nothing, one of the four, `{`.
-pub const NOTHING: u64 = 0;
+impl Place {
+    pub fn asks(level: u64, records: bool, unless: Unless) -> Place
+        ensures { meant result ≡ canon.asks level records (unless_of unless) }
+    {
+        Place {
+            level,
+            records,
+            path: true,
+            unless,
+            more: false,
+        }
+    }
 
-pub const FOUR: u64 = 1;
+    pub fn whole() -> Place
+        ensures { meant result ≡ canon.whole }
+    {
+        Place::asks(0, true, Unless::Nothing)
+    }
 
-pub const BRACE: u64 = 2;
+    pub fn head() -> Place
+        ensures { meant result ≡ canon.head }
+    {
+        Place::asks(0, false, Unless::Nothing)
+    }
 
-pub fn asks(level: u64, records: bool, unless: u64) -> Place
-    ensures { meant result ≡ canon.asks level records (unless_of unless) }
-{
-    Place {
-        level,
-        records,
-        path: true,
-        unless,
-        more: false,
+    pub fn left(self, level: u64) -> Place
+        ensures { meant result ≡ canon.left level (meant self) }
+    {
+        Place::asks(level, self.records, self.unless)
+    }
+
+    pub fn right(self, level: u64) -> Place
+        ensures { meant result ≡ canon.right level (meant self) }
+    {
+        Place::asks(level, self.records, Unless::Nothing)
+    }
+
+    pub fn pathless(self) -> Place
+        ensures { meant result ≡ canon.pathless (meant self) }
+    {
+        Place {
+            path: false,
+            more: false,
+            ..self
+        }
+    }
+
+    pub fn with_more(more: bool) -> Place
+        ensures { meant result ≡ canon.with_more more }
+    {
+        Place {
+            more,
+            ..Place::whole()
+        }
+    }
+
+    // In a pair of parentheses a row is a whole expr.
+    pub fn inner(self, pair: bool) -> Place
+        ensures { meant result ≡ inner pair (meant self) }
+    {
+        if pair { Place::whole() } else { self }
     }
 }
 
-pub fn whole() -> Place
-    ensures { meant result ≡ canon.whole }
-{
-    asks(0, true, NOTHING)
-}
-
-pub fn head() -> Place
-    ensures { meant result ≡ canon.head }
-{
-    asks(0, false, NOTHING)
-}
-
-pub fn left(level: u64, c: Place) -> Place
-    ensures { meant result ≡ canon.left level (meant c) }
-{
-    asks(level, c.records, c.unless)
-}
-
-pub fn right(level: u64, c: Place) -> Place
-    ensures { meant result ≡ canon.right level (meant c) }
-{
-    asks(level, c.records, NOTHING)
-}
-
-pub fn pathless(c: Place) -> Place
-    ensures { meant result ≡ canon.pathless (meant c) }
-{
-    Place {
-        level: c.level,
-        records: c.records,
-        path: false,
-        unless: c.unless,
-        more: false,
-    }
-}
-
-pub fn with_more(more: bool) -> Place
-    ensures { meant result ≡ canon.with_more more }
-{
-    Place {
-        level: 0,
-        records: true,
-        path: true,
-        unless: NOTHING,
-        more,
-    }
-}
-
-pub fn inner(c: Place, pair: bool) -> Place
-    ensures { meant result ≡ inner pair (meant c) }
-{
-    if pair {
-        return whole();
-    }
-    c
+// What a row is, by its numbers.
+#[derive(Clone, Copy, Debug, PartialEq, Eq)]
+pub struct Mark {
+    pub kind: u64,
+    pub value: u64,
+    pub detail: u64,
 }
 
 // The levels.
 
 const COMPARISON: u64 = 3;
+
+const SUM: u64 = 4;
+
+const PRODUCT: u64 = 5;
 
 pub const SIGNED: u64 = 6;
 
@@ -112,21 +120,49 @@ pub fn binary_level(detail: u64) -> u64
     match detail {
         0..=2 => detail,
         3..=8 => COMPARISON,
-        9..=10 => 4,
-        _ => 5,
+        9..=10 => SUM,
+        _ => PRODUCT,
     }
 }
 
-fn level(k: u64, detail: u64) -> u64
-    ensures { (v : ℕ) → result ≡ canon.level (mark k v detail) }
-{
-    match k {
-        kind::ASSIGN => 0,
-        kind::RETURN => 0,
-        kind::BINARY => binary_level(detail),
-        kind::NOT => SIGNED,
-        kind::NEGATE => SIGNED,
-        _ => OPERAND,
+impl Mark {
+    fn level(self) -> u64
+        ensures { result ≡ canon.level (mark self) }
+    {
+        match self.kind {
+            kind::ASSIGN | kind::RETURN => 0,
+            kind::BINARY => binary_level(self.detail),
+            kind::NOT | kind::NEGATE => SIGNED,
+            _ => OPERAND,
+        }
+    }
+
+    fn opens_brace(self) -> bool
+        ensures { result ≡ eqb self.kind 35 || (eqb self.kind 36 && eqb self.value 0) }
+    {
+        self.kind == kind::BLOCK || (self.kind == kind::RECORD && self.value == 0)
+    }
+
+    // Whether it begins with what the place rules out.
+    fn begins_so(self, unless: Unless) -> bool
+        ensures { result ≡ one_of (canon.begins (mark self)) (unless_of unless) }
+    {
+        match unless {
+            Unless::Four => is_four(self.kind),
+            Unless::Brace => self.opens_brace(),
+            Unless::Nothing => false,
+        }
+    }
+
+    // A pair of parentheses.
+    pub fn needs_pair(self, children: usize, c: Place) -> bool
+        ensures { (kids : Forest) → canon.empty kids ≡ eqb children 0 → result ≡ canon.needs (meant c) (mark self) kids }
+    {
+        self.level() < c.level
+            || (!c.path && self.kind == kind::PATH)
+            || (!c.records
+                && (self.kind == kind::RECORD || (self.kind == kind::RETURN && children == 0)))
+            || self.begins_so(c.unless)
     }
 }
 
@@ -141,46 +177,25 @@ pub fn left_level(detail: u64) -> u64
 pub fn is_four(k: u64) -> bool
     ensures { result ≡ canon.is_four k }
 {
-    (k == kind::IF) | ((k == kind::WHILE) | ((k == kind::FOR) | (k == kind::MATCH)))
+    matches!(k, kind::IF | kind::WHILE | kind::FOR | kind::MATCH)
 }
 
-fn opens_brace(k: u64, value: u64) -> bool
-    ensures { result ≡ eqb k 35 || (eqb k 36 && eqb value 0) }
-{
-    (k == kind::BLOCK) | ((k == kind::RECORD) & (value == 0))
-}
-
-fn begins_so(unless: u64, k: u64, value: u64) -> bool
-    ensures { (d : ℕ) → result ≡ one_of (canon.begins (mark k value d)) (unless_of unless) }
-{
-    match unless {
-        FOUR => is_four(k),
-        BRACE => opens_brace(k, value),
-        _ => false,
-    }
-}
-
-// A pair of parentheses.
-pub fn needs(c: Place, k: u64, value: u64, detail: u64, children: u64) -> bool
-    ensures { (kids : Forest) → canon.empty kids ≡ eqb children 0 → result ≡ canon.needs (meant c) (mark k value detail) kids }
-{
-    (level(k, detail) < c.level)
-        | ((!c.path & (k == kind::PATH))
-            | ((!c.records & ((k == kind::RECORD) | ((k == kind::RETURN) & (children == 0))))
-                | begins_so(c.unless, k, value)))
-}
-
+// Of these rows the text is copied.
 pub fn is_copied(k: u64) -> bool
     ensures { result ≡ one_of k copied }
 {
-    (k == kind::NAME)
-        | ((k == kind::INTEGER)
-            | ((k == kind::FLOAT)
-                | ((k == kind::BOOL)
-                    | ((k == kind::ASN)
-                        | ((k == kind::IPV4)
-                            | ((k == kind::IPV6)
-                                | ((k == kind::STRING)
-                                    | ((k == kind::CHAR)
-                                        | ((k == kind::ANY) | (k == kind::F_STRING))))))))))
+    matches!(
+        k,
+        kind::NAME
+            | kind::INTEGER
+            | kind::FLOAT
+            | kind::BOOL
+            | kind::ASN
+            | kind::IPV4
+            | kind::IPV6
+            | kind::STRING
+            | kind::CHAR
+            | kind::ANY
+            | kind::F_STRING
+    )
 }

@@ -4,10 +4,7 @@ ghost use Rattle.places.specs.Under.{at_phase, operands_at, under_operand, body_
 ghost use Rattle.places.specs.Meant.{meant};
 ghost use Rattle.canon.specs.Layout as canon;
 
-use super::{
-    BRACE, FOUR, OPERAND, Place, SIGNED, asks, binary_level, head, is_four, left, left_level,
-    pathless, right, whole, with_more,
-};
+use super::{Mark, OPERAND, Place, SIGNED, Unless, binary_level, is_four, left_level};
 use rows::kind;
 
 fn at(number: u64, phase: u64, c: Place) -> Place
@@ -16,16 +13,16 @@ fn at(number: u64, phase: u64, c: Place) -> Place
     if phase == number {
         return c;
     }
-    whole()
+    Place::whole()
 }
 
 fn operands(detail: u64, phase: u64, c: Place) -> Place
     ensures { meant result ≡ operands_at detail phase (meant c) }
 {
     match phase {
-        0 => left(left_level(detail), c),
-        1 => right(binary_level(detail) + 1, c),
-        _ => whole(),
+        0 => c.left(left_level(detail)),
+        1 => c.right(binary_level(detail) + 1),
+        _ => Place::whole(),
     }
 }
 
@@ -33,9 +30,9 @@ fn body(child: u64) -> Place
     ensures { meant result ≡ body_at child }
 {
     if child == kind::BLOCK {
-        return whole();
+        return Place::whole();
     }
-    asks(0, true, BRACE)
+    Place::asks(0, true, Unless::Brace)
 }
 
 fn in_arm(value: u64, phase: u64, child: u64) -> Place
@@ -51,55 +48,46 @@ fn in_match(phase: u64, more: bool) -> Place
     ensures { meant result ≡ in_match phase more }
 {
     if phase == 0 {
-        return head();
+        return Place::head();
     }
-    with_more(more)
+    Place::with_more(more)
 }
 
 fn in_block(child: u64) -> Place
     ensures { meant result ≡ canon.statement child }
 {
     if is_four(child) {
-        return whole();
+        return Place::whole();
     }
-    asks(0, true, FOUR)
+    Place::asks(0, true, Unless::Four)
 }
 
-fn operand(k: u64, detail: u64, c: Place, phase: u64) -> Place
-    ensures { meant result ≡ under_operand k detail (meant c) phase }
+#[tactic(auto, unfolding(crate::specs::Under::under_operand))]
+fn operand(row: Mark, c: Place, phase: u64) -> Place
+    ensures { meant result ≡ under_operand row.kind row.detail (meant c) phase }
 {
-    match k {
-        kind::BINARY => operands(detail, phase, c),
-        kind::NOT => at(0, phase, right(SIGNED, c)),
-        kind::NEGATE => at(0, phase, right(SIGNED, c)),
-        kind::CALL => at(0, phase, left(OPERAND, c)),
-        kind::QUESTION => at(0, phase, left(OPERAND, c)),
-        kind::ACCESS => at(0, phase, pathless(left(OPERAND, c))),
-        kind::ASSIGN => at(1, phase, right(1, c)),
-        kind::RETURN => at(0, phase, right(0, c)),
-        _ => whole(),
+    match row.kind {
+        kind::BINARY => operands(row.detail, phase, c),
+        kind::NOT | kind::NEGATE => at(0, phase, c.right(SIGNED)),
+        kind::CALL | kind::QUESTION => at(0, phase, c.left(OPERAND)),
+        kind::ACCESS => at(0, phase, c.left(OPERAND).pathless()),
+        kind::ASSIGN => at(1, phase, c.right(1)),
+        kind::RETURN => at(0, phase, c.right(0)),
+        _ => Place::whole(),
     }
 }
 
 // The place of the next child, of this kind.
-pub fn place_under(
-    k: u64,
-    value: u64,
-    detail: u64,
-    c: Place,
-    phase: u64,
-    child: u64,
-    more: bool,
-) -> Place
-    ensures { meant result ≡ under k value detail (meant c) phase child more }
+#[tactic(auto, unfolding(crate::specs::Under::under))]
+pub fn place_under(row: Mark, c: Place, phase: u64, child: u64, more: bool) -> Place
+    ensures { meant result ≡ under row.kind row.value row.detail (meant c) phase child more }
 {
-    match k {
-        kind::IF => at(0, phase, head()),
-        kind::WHILE => at(0, phase, head()),
-        kind::FOR => at(1, phase, head()),
+    match row.kind {
+        kind::IF | kind::WHILE => at(0, phase, Place::head()),
+        kind::FOR => at(1, phase, Place::head()),
         kind::MATCH => in_match(phase, more),
-        kind::ARM => in_arm(value, phase, child),
+        kind::ARM => in_arm(row.value, phase, child),
         kind::BLOCK => in_block(child),
-        _ => operand(k, detail, c, phase),
+        _ => operand(row, c, phase),
     }
 }

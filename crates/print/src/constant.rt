@@ -1,49 +1,42 @@
 // Constants as lines of text: the answer to one, and all of a source.
-use super::{head, number};
+use super::table_rows::{KIND, SIZE, TableRow, cell, row_text, rows_before};
+use super::{head, one_line};
 use chars::{Answer, refusal};
 use constants::Constant;
-use machine::{Named, Value};
+use machine::Value;
 use programs::Out;
 use reader::entries;
 use rows::kind;
+use std::fmt;
 
 // A whole number of a type, with its sign.
-fn whole(to: &mut Out, ty: u64, a: u64) {
-    let named = machine::integer_of(ty);
-    let Named::Of(t) = named else {
-        return;
-    };
-    if wholes::negative(t, a) {
-        to.say(b"-");
+#[derive(Clone, Copy)]
+struct Whole {
+    ty: u64,
+    bits: u64,
+}
+
+impl fmt::Display for Whole {
+    fn fmt<W: fmt::Write>(&self, f: &mut fmt::Formatter<W>) -> fmt::Result {
+        let Some(t) = machine::integer_of(self.ty) else {
+            return Ok(());
+        };
+        if wholes::negative(t, self.bits) {
+            f.write_str("-")?;
+        }
+        let magnitude = wholes::magnitude(t, self.bits);
+        write!(f, "{magnitude}")
     }
-    to.decimal(wholes::magnitude(t, a));
 }
 
 // A constant's value behind the word for its kind; a float by its bits, a truth value as 0 or 1.
 fn value_line(to: &mut Out, ty: u64, v: Value) {
     let bits = machine::bits_of(ty, v);
     match v {
-        Value::Whole(a) => {
-            to.say(b"accepted integer ");
-            whole(to, ty, a);
-        }
-        Value::Float(_) => {
-            to.say(b"accepted float ");
-            float_bits(to, bits);
-        }
-        Value::Truth(_) => {
-            to.say(b"accepted bool ");
-            to.decimal(bits);
-        }
-    }
-    to.say(b"\n");
-}
-
-fn float_bits(to: &mut Out, bits: u64) {
-    if bits == machine::NAN {
-        to.say(b"nan");
-    } else {
-        to.decimal(bits);
+        Value::Whole(bits) => to.print(format_args!("accepted integer {}\n", Whole { ty, bits })),
+        Value::Float(_) if bits == machine::NAN => to.print("accepted float nan\n"),
+        Value::Float(_) => to.print(format_args!("accepted float {bits}\n")),
+        Value::Truth(_) => to.print(format_args!("accepted bool {bits}\n")),
     }
 }
 
@@ -51,273 +44,151 @@ fn float_bits(to: &mut Out, bits: u64) {
 pub fn answer(to: &mut Out, s: &[u8], number: u64, table: &mut [u64], list: &mut [u64]) {
     let c = constants::evaluate(s, number, table, list);
     match c {
-        Constant::Is(v, ty, _) => value_line(to, ty, v),
-        Constant::Refused(a) => head(to, a),
-    }
-}
-
-// A number of a row, 0 where the table has no such row.
-pub fn cell(table: &[u64], row: usize, column: usize) -> u64 {
-    if row < table.len() / rows::WIDTH {
-        if column < rows::WIDTH {
-            return table[row * rows::WIDTH + column];
-        }
-    }
-    0
-}
-
-// Where a row has its span and how many rows its subtree has.
-const START: usize = 1;
-
-const END: usize = 2;
-
-const SIZE: usize = 6;
-
-// The row of the constant with a number, from 0; the number of rows where there is none.
-fn constant_row(table: &[u64], count: usize, number: u64) -> usize {
-    let mut left = number;
-    let mut i = 0;
-    while i < count {
-        if cell(table, i, 0) == kind::CONST {
-            if left == 0 {
-                return i;
-            }
-            left -= 1;
-        }
-        i += 1;
-    }
-    count
-}
-
-// So many rows before a row, the first where there are fewer.
-pub fn rows_before(row: usize, many: u64) -> usize {
-    if many <= row as u64 {
-        return row - many as usize;
-    }
-    0
-}
-
-// One byte, and a blank for a byte that isn't shown.
-fn byte(to: &mut Out, b: u8) {
-    if b < 33 {
-        to.say(b" ");
-    } else {
-        let one = [b; 1];
-        to.say(&one);
-    }
-}
-
-// A row's text on one line.
-pub fn row_text(to: &mut Out, s: &[u8], table: &[u64], row: usize) {
-    let end = cell(table, row, END) as usize;
-    let mut i = cell(table, row, START) as usize;
-    while i < end {
-        if i < s.len() {
-            byte(to, s[i]);
-        }
-        i += 1;
+        Ok(f) => value_line(to, f.ty, f.value),
+        Err(a) => head(to, a),
     }
 }
 
 // The name and the type of a constant: its expression's rows stand before its own, and before those the type's, before those the name's.
-fn name_and_type(to: &mut Out, s: &[u8], table: &[u64], row: usize) {
+fn name_and_type(to: &mut Out, s: &[u8], all: &[TableRow], row: usize) {
     let expr = rows_before(row, 1);
-    let ty = rows_before(expr, cell(table, expr, SIZE));
-    let name = rows_before(ty, cell(table, ty, SIZE));
-    row_text(to, s, table, name);
-    to.say(b" ");
-    row_text(to, s, table, ty);
-    to.say(b" ");
+    let ty = rows_before(expr, cell(all, expr, SIZE));
+    let name = rows_before(ty, cell(all, ty, SIZE));
+    one_line(to, row_text(s, all, name));
+    to.print(" ");
+    one_line(to, row_text(s, all, ty));
+    to.print(" ");
 }
 
 // No source has as many bytes.
-const MOST_BYTES: usize = 65536;
+const MOST_BYTES: u64 = 65536;
 
-// A line and a column in it, from 1.
-#[derive(Clone, Copy)]
-struct Spot {
-    line: u64,
-    column: u64,
-}
+const NEWLINE: u8 = b'\n';
 
-// Where a place is.
-fn spot_of(s: &[u8], at: usize) -> Spot {
-    let mut line: u64 = 1;
-    let mut column: u64 = 1;
-    let mut i = 0;
-    while i < MOST_BYTES {
-        if at <= i {
-            return Spot { line, column };
-        }
-        i += 1;
-        if newline(s, i - 1) {
-            line += 1;
-            column = 1;
-            continue;
-        }
-        column += 1;
-    }
-    Spot { line, column }
-}
-
-fn newline(s: &[u8], i: usize) -> bool {
-    if i < s.len() {
-        return s[i] == b'\n';
-    }
-    false
-}
-
-// `refused NUMBER at line LINE, column COLUMN`.
+// `refused NUMBER at line LINE, column COLUMN`, both from 1.
 fn refusal_line(to: &mut Out, s: &[u8], a: Answer) {
-    to.say(b"refused");
-    number(to, a.number);
-    let spot = spot_of(s, a.start);
-    to.say(b" at line");
-    number(to, spot.line);
-    to.say(b", column");
-    number(to, spot.column);
-    to.say(b"\n");
+    let before = s.get(..a.start).unwrap_or(s);
+    let lines = before.iter().filter(|b| **b == NEWLINE).count();
+    let columns = before.iter().rev().take_while(|b| **b != NEWLINE).count();
+    to.print(format_args!(
+        "refused {} at line {}, column {}\n",
+        a.number,
+        lines.saturating_add(1),
+        columns.saturating_add(1)
+    ));
 }
 
 // The bits of an f64: its sign's, the exponent's field, and 13 hex digits below.
-const SIGN: u64 = 9223372036854775808;
+const SIGN: u64 = 1 << 63;
 
-const UNIT: u64 = 4503599627370496;
+const UNIT: u64 = 1 << 52;
 
 const INFINITE: u64 = 2047;
 
-const BIAS: u64 = 1023;
-
-// The power of two of a field, which is one more than it says where the field is 0.
-fn exponent(to: &mut Out, field: u64) {
-    if field == 0 {
-        to.say(b"p-1022");
-        return;
-    }
-    to.say(b"p");
-    if field < BIAS {
-        to.say(b"-");
-        to.decimal(BIAS - field);
-    } else {
-        to.decimal(field - BIAS);
-    }
-}
-
-// The float without its sign.
-fn amount(to: &mut Out, bits: u64) {
-    let field = bits / UNIT;
-    if bits == 0 {
-        to.say(b"0");
-        return;
-    }
-    if INFINITE <= field {
-        to.say(b"inf");
-        return;
-    }
-    if field == 0 {
-        to.say(b"0x0.");
-    } else {
-        to.say(b"0x1.");
-    }
-    to.hex(bits % UNIT, 13);
-    exponent(to, field);
-}
+const BIAS: i64 = 1023;
 
 // A float exactly: hex digits and a power of two, as C's strtod reads them.
-fn float_text(to: &mut Out, bits: u64) {
-    if bits == machine::NAN {
-        to.say(b"nan");
-        return;
+#[derive(Clone, Copy)]
+struct Exact(u64);
+
+impl fmt::Display for Exact {
+    fn fmt<W: fmt::Write>(&self, f: &mut fmt::Formatter<W>) -> fmt::Result {
+        if self.0 == machine::NAN {
+            return f.write_str("nan");
+        }
+        if SIGN <= self.0 {
+            f.write_str("-")?;
+        }
+        let amount = Amount(self.0 % SIGN);
+        write!(f, "{amount}")
     }
-    if SIGN <= bits {
-        to.say(b"-");
+}
+
+// The float without its sign. Where the field is 0, the power of two is one more than it says.
+#[derive(Clone, Copy)]
+struct Amount(u64);
+
+impl fmt::Display for Amount {
+    fn fmt<W: fmt::Write>(&self, f: &mut fmt::Formatter<W>) -> fmt::Result {
+        let field = self.0 / UNIT;
+        let digits = self.0 % UNIT;
+        if self.0 == 0 {
+            return f.write_str("0");
+        }
+        if INFINITE <= field {
+            return f.write_str("inf");
+        }
+        if field == 0 {
+            return write!(f, "0x0.{digits:013x}p-1022");
+        }
+        let power = field as i64 - BIAS;
+        write!(f, "0x1.{digits:013x}p{power}")
     }
-    amount(to, bits % SIGN);
 }
 
 // A constant's value as a filter would have it, but for a float.
 fn value_text(to: &mut Out, ty: u64, v: Value) {
     match v {
-        Value::Whole(a) => whole(to, ty, a),
-        Value::Float(_) => float_text(to, machine::bits_of(ty, v)),
-        Value::Truth(b) => {
-            if b {
-                to.say(b"true");
-            } else {
-                to.say(b"false");
-            }
+        Value::Whole(bits) => to.print(format_args!("{}\n", Whole { ty, bits })),
+        Value::Float(_) => to.print(format_args!("{}\n", Exact(machine::bits_of(ty, v)))),
+        Value::Truth(b) => to.print(format_args!("{b}\n")),
+    }
+}
+
+// The rest of a constant's line: its value or its refusal. Whether it has a value.
+fn constant_line(to: &mut Out, s: &[u8], c: Constant) -> bool {
+    match c {
+        Ok(f) => {
+            value_text(to, f.ty, f.value);
+            true
+        }
+        Err(a) => {
+            refusal_line(to, s, a);
+            false
         }
     }
-    to.say(b"\n");
 }
 
-// How a constant was answered.
-#[derive(Clone, Copy)]
-enum Next {
-    Accepted,
-    Refused,
-    // There is none with that number.
-    Missing,
-    // The source is refused.
-    Unread,
+// The row of the constant with a number, from 0.
+fn constant_row(all: &[TableRow], number: usize) -> Option<usize> {
+    all.iter()
+        .enumerate()
+        .filter(|(_, row)| row[KIND] == kind::CONST)
+        .nth(number)
+        .map(|(row, _)| row)
 }
 
-// A line for the constant with a number, whose row is known.
-fn constant_line(
+// Reads a source, and begins the line of the constant with a number, where there is one; or the source's refusal.
+fn named_constant(
     to: &mut Out,
     s: &[u8],
     number: u64,
-    row: usize,
     table: &mut [u64],
-    list: &mut [u64],
-) -> Next {
-    name_and_type(to, s, table, row);
-    let c = constants::evaluate(s, number, table, list);
-    match c {
-        Constant::Is(v, ty, _) => {
-            value_text(to, ty, v);
-            Next::Accepted
-        }
-        Constant::Refused(a) => {
-            refusal_line(to, s, a);
-            Next::Refused
-        }
-    }
-}
-
-// A line for the constant with a number, where there is one; or that of the source's refusal.
-fn next_constant(to: &mut Out, s: &[u8], number: u64, table: &mut [u64], list: &mut [u64]) -> Next {
+) -> Result<Option<()>, Answer> {
     let a = entries::tree(s, table);
     if a.number != refusal::NONE {
-        refusal_line(to, s, a);
-        return Next::Unread;
+        return Err(a);
     }
-    let row = constant_row(table, a.count, number);
-    if row == a.count {
-        return Next::Missing;
-    }
-    constant_line(to, s, number, row, table, list)
+    let (all, _) = table.as_chunks::<{ rows::WIDTH }>();
+    let read = all.get(..a.count).unwrap_or(all);
+    let row = constant_row(read, number as usize);
+    Ok(row.map(|row| name_and_type(to, s, read, row)))
 }
 
 // C-18: a line for each constant of a source, its name, its type and its value or refusal; or the source's refusal. Whether nothing was refused.
 pub fn answer_all(to: &mut Out, s: &[u8], table: &mut [u64], list: &mut [u64]) -> bool {
     let mut fine = true;
-    let mut i = 0;
-    while i < MOST_BYTES {
-        let next = next_constant(to, s, i as u64, table, list);
-        match next {
-            Next::Accepted => {}
-            Next::Refused => {
-                fine = false;
-            }
-            Next::Missing => {
-                return fine;
-            }
-            Next::Unread => {
+    for number in 0..MOST_BYTES {
+        match named_constant(to, s, number, table) {
+            Ok(Some(())) => {}
+            Ok(None) => return fine,
+            Err(a) => {
+                refusal_line(to, s, a);
                 return false;
             }
         }
-        i += 1;
+        let c = constants::evaluate(s, number, table, list);
+        fine &= constant_line(to, s, c);
     }
     fine
 }

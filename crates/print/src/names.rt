@@ -1,17 +1,8 @@
 // Rows and tokens by the names of their kinds; rows as a tree, each under its parent.
-use super::constant::{cell, row_text, rows_before};
-use super::number;
+use super::one_line;
+use super::table_rows::{DETAIL, END, KIND, SIZE, START, TableRow, cell, row_text, rows_before};
 use programs::Out;
 use rows::kind;
-
-// The columns of a row that are used: where its span begins and ends, its detail and how many rows its subtree has.
-const START: usize = 1;
-
-const END: usize = 2;
-
-const DETAIL: usize = 5;
-
-const SIZE: usize = 6;
 
 // Two columns whose numbers aren't shown take others: how deep a row is, and the next row of a chain, from a row down to its first leaf. A leaf
 // has the top of the chain that ends in it.
@@ -19,247 +10,188 @@ const DEPTH: usize = 3;
 
 const LINK: usize = 4;
 
-fn say(to: &mut Out, t: &[u8]) {
-    to.say(t);
+// The names of kinds.
+const KINDS: [(u64, &str); 44] = [
+    (kind::NAME, "name"),
+    (kind::PATH, "path"),
+    (kind::NEVER, "never type"),
+    (kind::UNIT, "unit type"),
+    (kind::OPTION, "optional type"),
+    (kind::PATH_TYPE, "path type"),
+    (kind::RECORD_TYPE, "record type"),
+    (kind::TYPED_NAME, "name with type"),
+    (kind::INTEGER, "integer"),
+    (kind::FLOAT, "float"),
+    (kind::BOOL, "bool"),
+    (kind::ASN, "AS number"),
+    (kind::IPV4, "IPv4"),
+    (kind::IPV6, "IPv6"),
+    (kind::STRING, "string"),
+    (kind::CHAR, "char"),
+    (kind::BINARY, "binary"),
+    (kind::NOT, "not"),
+    (kind::NEGATE, "negate"),
+    (kind::CALL, "call"),
+    (kind::ACCESS, "access"),
+    (kind::QUESTION, "question"),
+    (kind::ASSIGN, "assign"),
+    (kind::RETURN, "return form"),
+    (kind::IF, "if"),
+    (kind::WHILE, "while"),
+    (kind::FOR, "for"),
+    (kind::MATCH, "match"),
+    (kind::ARM, "arm"),
+    (kind::ANY, "any"),
+    (kind::VARIANT, "variant"),
+    (kind::BLOCK, "block"),
+    (kind::RECORD, "record"),
+    (kind::FIELD, "field"),
+    (kind::LET, "let"),
+    (kind::IMPORT, "import"),
+    (kind::CONST, "const"),
+    (kind::FN, "fn"),
+    (kind::TEST, "test"),
+    (kind::TREE, "tree"),
+    (kind::IMPORT_PATH, "import path"),
+    (kind::FILTER, "filter"),
+    (kind::F_STRING, "f-string"),
+    (kind::TEXT, "text"),
+];
+
+// What the details of rows that aren't leaves say, by their number: the sign of a binary row, that of an assignment, the word of a return form,
+// and what `filter`, the name of its kind, lacks.
+const OPERATORS: [&str; 14] = [
+    "", " ||", " &&", " ==", " !=", " <", " <=", " >", " >=", " +", " -", " *", " /", " %",
+];
+
+const ASSIGNMENTS: [&str; 6] = [" =", " +=", " -=", " *=", " /=", " %="];
+
+const RETURNS: [&str; 4] = ["", " return", " accept", " reject"];
+
+const FILTERS: [&str; 3] = ["", "", "map"];
+
+// The names of tokens' codes.
+const CODES: [&str; 13] = [
+    "name",
+    "IPv6",
+    "IPv4",
+    "two signs",
+    "sign",
+    "AS number",
+    "hex",
+    "integer",
+    "float",
+    "string",
+    "char",
+    "keyword",
+    "bool",
+];
+
+fn kind_name(k: u64) -> &'static str {
+    KINDS
+        .iter()
+        .find(|(kind, _)| *kind == k)
+        .map_or("row", |(_, name)| *name)
 }
 
-// Names, types and literals.
-fn short_name(to: &mut Out, k: u64) {
-    match k {
-        kind::NAME => say(to, b"name"),
-        kind::PATH => say(to, b"path"),
-        kind::NEVER => say(to, b"never type"),
-        kind::UNIT => say(to, b"unit type"),
-        kind::OPTION => say(to, b"optional type"),
-        kind::PATH_TYPE => say(to, b"path type"),
-        kind::RECORD_TYPE => say(to, b"record type"),
-        kind::TYPED_NAME => say(to, b"name with type"),
-        kind::INTEGER => say(to, b"integer"),
-        kind::FLOAT => say(to, b"float"),
-        kind::BOOL => say(to, b"bool"),
-        kind::ASN => say(to, b"AS number"),
-        kind::IPV4 => say(to, b"IPv4"),
-        kind::IPV6 => say(to, b"IPv6"),
-        kind::STRING => say(to, b"string"),
-        kind::CHAR => say(to, b"char"),
-        _ => say(to, b"row"),
-    }
+// The name with a number in a list.
+fn listed(names: &[&'static str], n: u64) -> Option<&'static str> {
+    names.get(n as usize).copied()
 }
 
-fn expression_name(to: &mut Out, k: u64) {
-    match k {
-        kind::BINARY => say(to, b"binary"),
-        kind::NOT => say(to, b"not"),
-        kind::NEGATE => say(to, b"negate"),
-        kind::CALL => say(to, b"call"),
-        kind::ACCESS => say(to, b"access"),
-        kind::QUESTION => say(to, b"question"),
-        kind::ASSIGN => say(to, b"assign"),
-        kind::RETURN => say(to, b"return form"),
-        kind::IF => say(to, b"if"),
-        kind::WHILE => say(to, b"while"),
-        kind::FOR => say(to, b"for"),
-        kind::MATCH => say(to, b"match"),
-        kind::ARM => say(to, b"arm"),
-        kind::ANY => say(to, b"any"),
-        kind::VARIANT => say(to, b"variant"),
-        kind::BLOCK => say(to, b"block"),
-        kind::RECORD => say(to, b"record"),
-        kind::FIELD => say(to, b"field"),
-        _ => short_name(to, k),
-    }
+fn detail_name(k: u64, detail: u64) -> &'static str {
+    let name = match k {
+        kind::FILTER => listed(&FILTERS, detail),
+        kind::BINARY => listed(&OPERATORS, detail),
+        kind::ASSIGN => listed(&ASSIGNMENTS, detail),
+        kind::RETURN => listed(&RETURNS, detail),
+        _ => None,
+    };
+    name.unwrap_or("")
 }
 
-fn kind_name(to: &mut Out, k: u64) {
-    match k {
-        kind::LET => say(to, b"let"),
-        kind::IMPORT => say(to, b"import"),
-        kind::CONST => say(to, b"const"),
-        kind::FN => say(to, b"fn"),
-        kind::TEST => say(to, b"test"),
-        kind::TREE => say(to, b"tree"),
-        kind::IMPORT_PATH => say(to, b"import path"),
-        kind::FILTER => say(to, b"filter"),
-        kind::F_STRING => say(to, b"f-string"),
-        kind::TEXT => say(to, b"text"),
-        _ => expression_name(to, k),
-    }
+// The code of a token.
+pub fn code_name(code: u64) -> &'static str {
+    listed(&CODES, code).unwrap_or("name")
 }
 
-// The sign of a binary row.
-fn operator(to: &mut Out, detail: u64) {
-    match detail {
-        1 => say(to, b" ||"),
-        2 => say(to, b" &&"),
-        3 => say(to, b" =="),
-        4 => say(to, b" !="),
-        5 => say(to, b" <"),
-        6 => say(to, b" <="),
-        7 => say(to, b" >"),
-        8 => say(to, b" >="),
-        9 => say(to, b" +"),
-        10 => say(to, b" -"),
-        11 => say(to, b" *"),
-        12 => say(to, b" /"),
-        13 => say(to, b" %"),
-        _ => {}
-    }
-}
-
-fn assignment(to: &mut Out, detail: u64) {
-    match detail {
-        0 => say(to, b" ="),
-        1 => say(to, b" +="),
-        2 => say(to, b" -="),
-        3 => say(to, b" *="),
-        4 => say(to, b" /="),
-        5 => say(to, b" %="),
-        _ => {}
-    }
-}
-
-fn return_word(to: &mut Out, detail: u64) {
-    match detail {
-        1 => say(to, b" return"),
-        2 => say(to, b" accept"),
-        3 => say(to, b" reject"),
-        _ => {}
-    }
-}
-
-// A row's detail is 1 for `filter`, whose name stands there, and 2 for `filtermap`.
-fn filter_word(to: &mut Out, detail: u64) {
-    if detail == 2 {
-        say(to, b"map");
-    }
-}
-
-// What the detail of a row that isn't a leaf says.
-fn detail_name(to: &mut Out, k: u64, detail: u64) {
-    match k {
-        kind::FILTER => filter_word(to, detail),
-        kind::BINARY => operator(to, detail),
-        kind::ASSIGN => assignment(to, detail),
-        kind::RETURN => return_word(to, detail),
-        _ => {}
-    }
-}
-
-fn set(table: &mut [u64], row: usize, column: usize, value: u64) {
-    if row < table.len() / rows::WIDTH {
-        if column < rows::WIDTH {
-            table[row * rows::WIDTH + column] = value;
+fn set(all: &mut [TableRow], row: usize, column: usize, value: u64) {
+    if let Some(numbers) = all.get_mut(row) {
+        if let Some(number) = numbers.get_mut(column) {
+            *number = value;
         }
     }
 }
 
-fn is_leaf(table: &[u64], row: usize) -> bool {
-    cell(table, row, SIZE) <= 1
+fn is_leaf(all: &[TableRow], row: usize) -> bool {
+    cell(all, row, SIZE) <= 1
 }
 
 // Puts a row on top of the chain that ends in the first leaf of its subtree.
-fn link(table: &mut [u64], row: usize) {
-    if is_leaf(table, row) {
-        set(table, row, LINK, row as u64);
+fn link(all: &mut [TableRow], row: usize) {
+    if is_leaf(all, row) {
+        set(all, row, LINK, row as u64);
         return;
     }
-    let size = cell(table, row, SIZE);
-    let first = rows_before(row, std::num::wrapping_sub_u64(size, 1));
-    let inner = cell(table, first, LINK);
-    set(table, row, LINK, inner);
-    set(table, first, LINK, row as u64);
-}
-
-fn link_all(table: &mut [u64], count: usize) {
-    let mut i = 0;
-    while i < count {
-        link(table, i);
-        i += 1;
-    }
-}
-
-fn indent(to: &mut Out, depth: u64) {
-    let mut left = depth;
-    while 0 < left {
-        say(to, b"  ");
-        left -= 1;
-    }
+    let size = cell(all, row, SIZE);
+    let first = rows_before(row, size.saturating_sub(1));
+    let inner = cell(all, first, LINK);
+    set(all, row, LINK, inner);
+    set(all, first, LINK, row as u64);
 }
 
 // A row's kind and span, and the text of a leaf.
-fn line(to: &mut Out, s: &[u8], table: &[u64], row: usize, depth: u64) {
-    let k = cell(table, row, 0);
-    indent(to, depth);
-    kind_name(to, k);
-    detail_name(to, k, cell(table, row, DETAIL));
-    number(to, cell(table, row, START));
-    number(to, cell(table, row, END));
-    leaf_text(to, s, table, row);
-    say(to, b"\n");
-}
-
-fn leaf_text(to: &mut Out, s: &[u8], table: &[u64], row: usize) {
-    if is_leaf(table, row) {
-        say(to, b" ");
-        row_text(to, s, table, row);
+fn line(to: &mut Out, s: &[u8], all: &[TableRow], row: usize, depth: u64) {
+    for _ in 0..depth {
+        to.print("  ");
     }
+    let k = cell(all, row, KIND);
+    let detail = detail_name(k, cell(all, row, DETAIL));
+    let start = cell(all, row, START);
+    let end = cell(all, row, END);
+    to.print(format_args!("{}{detail} {start} {end}", kind_name(k)));
+    if is_leaf(all, row) {
+        to.print(" ");
+        one_line(to, row_text(s, all, row));
+    }
+    to.print("\n");
 }
 
 // How deep the top of a leaf's chain is: as deep as the row before the leaf, which ends where it begins.
-fn depth_of(table: &[u64], leaf: usize) -> u64 {
-    if leaf == 0 {
-        return 0;
+fn depth_of(all: &[TableRow], leaf: usize) -> u64 {
+    match leaf.checked_sub(1) {
+        Some(before) => cell(all, before, DEPTH),
+        None => 0,
     }
-    cell(table, leaf - 1, DEPTH)
 }
 
 // The rows of a leaf's chain, from its top down; nothing for another row.
-fn chain(to: &mut Out, s: &[u8], table: &mut [u64], leaf: usize) {
-    if !is_leaf(table, leaf) {
+// kept: no plainer over an iterator of the chain, since each row's depth is written into the table that its link is read from.
+fn chain(to: &mut Out, s: &[u8], all: &mut [TableRow], leaf: usize) {
+    if !is_leaf(all, leaf) {
         return;
     }
-    let mut depth = depth_of(table, leaf);
-    let mut i = cell(table, leaf, LINK);
-    while leaf as u64 <= i {
-        set(table, i as usize, DEPTH, depth);
-        line(to, s, table, i as usize, depth);
-        if i == leaf as u64 {
+    let mut depth = depth_of(all, leaf);
+    let mut row = cell(all, leaf, LINK) as usize;
+    while leaf <= row {
+        set(all, row, DEPTH, depth);
+        line(to, s, all, row, depth);
+        let next = cell(all, row, LINK) as usize;
+        if (row == leaf) | (row <= next) {
             return;
         }
-        let next = cell(table, i as usize, LINK);
-        if i <= next {
-            return;
-        }
-        i = next;
-        depth = std::num::wrapping_add_u64(depth, 1);
+        row = next;
+        depth = depth.saturating_add(1);
     }
 }
 
 // The rows as a tree: parents first.
 pub fn tree_lines(to: &mut Out, s: &[u8], table: &mut [u64], count: usize) {
-    link_all(table, count);
-    let mut i = 0;
-    while i < count {
-        chain(to, s, table, i);
-        i += 1;
+    let (all, _) = table.as_chunks_mut::<{ rows::WIDTH }>();
+    for row in 0..count {
+        link(all, row);
     }
-}
-
-// The code of a token.
-pub fn code_name(to: &mut Out, code: u64) {
-    match code {
-        1 => say(to, b"IPv6"),
-        2 => say(to, b"IPv4"),
-        3 => say(to, b"two signs"),
-        4 => say(to, b"sign"),
-        5 => say(to, b"AS number"),
-        6 => say(to, b"hex"),
-        7 => say(to, b"integer"),
-        8 => say(to, b"float"),
-        9 => say(to, b"string"),
-        10 => say(to, b"char"),
-        11 => say(to, b"keyword"),
-        12 => say(to, b"bool"),
-        _ => say(to, b"name"),
+    for row in 0..count {
+        chain(to, s, all, row);
     }
 }

@@ -1,4 +1,5 @@
 -- The round trip over lists, for every source of bytes that has a reading.
+use Rattle.std.specs.Prelude.{Some, None, Ok, Err}
 use mathlib.Core.Path.{◌≡◌, refl, subst, sym}
 use mathlib.Core.List.{List, [], ◌∷◌}
 use mathlib.Core.Bool.{Bool, true, false, cond}
@@ -8,24 +9,25 @@ use lib.Dec.{T, eqb, T_not}
 use lib.ListN.{length}
 use lib.Seq.{slice}
 use Rattle.tokens.specs.declared.Refusal.{Refusal}
-use Rattle.tokens.specs.declared.Step.{Step}
-use Rattle.tokens.specs.declared.Step.TheVariants.{Taken, Refused}
+use Rattle.tokens.specs.Results.{Step}
 use Rattle.tokens.specs.Words.{code_of}
 use Rattle.tokens.specs.Tokens.{step_at}
-use Rattle.numbers.specs.declared.Number.{Number}
+use Rattle.numbers.specs.Results.{Number}
+use Rattle.numbers.specs.Results.{Written}
 use Rattle.numbers.specs.declared.Amount.{Amount}
 use Rattle.numbers.specs.Numbers.{integer_of, float_of, hex_of, as_of}
-use Rattle.addresses.specs.declared.Quad.{Quad}
-use Rattle.addresses.specs.declared.Address.{Address}
+use Rattle.addresses.specs.Results.{Quad}
+use Rattle.addresses.specs.Results.{Address}
 use Rattle.addresses.specs.Addresses.{quad_of, wide_of}
-use Rattle.strings.specs.declared.Size.{Size}
-use Rattle.strings.specs.declared.Point.{Point}
+use Rattle.strings.specs.Results.{Size}
+use Rattle.strings.specs.Results.{Point}
 use Rattle.strings.specs.Strings.{size_of, char_of}
+use Rattle.texts.specs.Results.{Scanned}
 use Rattle.texts.specs.declared.Part.{Part}
-use Rattle.texts.specs.declared.Part.TheVariants.{Before, Ends, None}
+use Rattle.texts.specs.declared.Part.TheVariants.{Before, Ends}
 use Rattle.texts.specs.Parts.{part_at}
 use Rattle.texts.specs.Texts.{text_of}
-use Rattle.values.specs.declared.Literal.{Literal}
+use Rattle.values.specs.Results.{Worth}
 use Rattle.values.specs.Literals.{from_amount, from_number, from_quad, from_address, from_size, from_point, bool_of, literal_of}
 use Rattle.chars.specs.Texts.{bytes, same}
 use Rattle.rows.specs.Kinds as kinds
@@ -49,41 +51,41 @@ use Rattle.printing.specs.Groves.{bits}
 use Rattle.printing.specs.Pairs.{Choice}
 
 -- a literal that has a value has a literal's kind
-abbrev Good : Literal → Type 0
+abbrev Good : Worth → Type 0
 Good x = T (holds x) → T (one_of (kind_of x) literal_kinds)
 
-good_cond : (b : Bool) (x y : Literal) → Good x → Good y → Good (cond b x y)
+good_cond : (b : Bool) (x y : Worth) → Good x → Good y → Good (cond b x y)
 good_cond true x y f g = f
 good_cond false x y f g = g
 
-good_amount : (x : Amount) → Good (from_amount x)
-good_amount (Amount.Integer v d) t = tt
-good_amount (Amount.Float d) t = tt
-good_amount Amount.None t = absurd t
+good_amount : (x : Written) → Good (from_amount x)
+good_amount (Some (Amount.Integer v d)) t = tt
+good_amount (Some (Amount.Float d)) t = tt
+good_amount None t = absurd t
 
 good_number : (k : ℕ) → T (one_of k literal_kinds) → (x : Number) → Good (from_number k x)
-good_number k m (Number.Is v n) t = m
-good_number k m Number.None t = absurd t
+good_number k m (Some (v, n)) t = m
+good_number k m None t = absurd t
 
 good_quad : (x : Quad) → Good (from_quad x)
-good_quad (Quad.Is v) t = tt
-good_quad Quad.None t = absurd t
+good_quad (Some v) t = tt
+good_quad None t = absurd t
 
 good_address : (x : Address) → Good (from_address x)
-good_address (Address.Is h k) t = tt
-good_address Address.None t = absurd t
+good_address (Some x) t = tt
+good_address None t = absurd t
 
 good_size : (x : Size) → Good (from_size x)
-good_size (Size.Is n) t = tt
-good_size Size.None t = absurd t
+good_size (Some n) t = tt
+good_size None t = absurd t
 
 good_point : (x : Point) → Good (from_point x)
-good_point (Point.Is c) t = tt
-good_point Point.None t = absurd t
+good_point (Some c) t = tt
+good_point None t = absurd t
 
 good_bool : (t : List ℕ) → Good (bool_of t)
 unfolding bool_of
-good_bool t = good_cond (same t (bytes "true")) (Literal.Is kinds.BOOL 1 0) (cond (same t (bytes "false")) (Literal.Is kinds.BOOL 0 0) Literal.None) (λ h. tt) (good_cond (same t (bytes "false")) (Literal.Is kinds.BOOL 0 0) Literal.None (λ h. tt) (λ h. absurd h))
+good_bool t = good_cond (same t (bytes "true")) (Some (record { kind = kinds.BOOL; value = 1; detail = 0 })) (cond (same t (bytes "false")) (Some (record { kind = kinds.BOOL; value = 0; detail = 0 })) None) (λ h. tt) (good_cond (same t (bytes "false")) (Some (record { kind = kinds.BOOL; value = 0; detail = 0 })) None (λ h. tt) (λ h. absurd h))
 
 good_literal : (c : ℕ) (t : List ℕ) → Good (literal_of c t)
 unfolding literal_of
@@ -96,7 +98,7 @@ good_literal c t =
     (good_cond (eqb c 8) (from_amount (float_of t)) _ (good_amount (float_of t))
     (good_cond (eqb c 9) (from_size (size_of t)) _ (good_size (size_of t))
     (good_cond (eqb c 10) (from_point (char_of t)) _ (good_point (char_of t))
-    (good_cond (eqb c 12) (bool_of t) Literal.None (good_bool t) (λ h. absurd h)))))))))
+    (good_cond (eqb c 12) (bool_of t) None (good_bool t) (λ h. absurd h)))))))))
 
 abbrev Fine : Token → Type 0
 Fine x = T x.holds → T (one_of x.kind literal_kinds)
@@ -116,16 +118,16 @@ after_fine false true r x j e = subst Fine (same_token e) (λ h. absurd h)
 after_fine false false r x j e = absurd (never_wrong e)
 
 look_fine : (s : List ℕ) (t : Step) (x : Token) (j : ℕ) → look_of s t ≡ found x j → Fine x
-look_fine s (Taken w a next) x j e = subst Fine (same_token e) (good_literal (code_of w) _)
-look_fine s (Refused r) x j e = after_fine (eqb r.number 11) (eqb r.number 5) r x j e
+look_fine s (Ok (w, a, next)) x j e = subst Fine (same_token e) (good_literal (code_of w) _)
+look_fine s (Err r) x j e = after_fine (eqb r.number 11) (eqb r.number 5) r x j e
 
 -- no token is an f-string's row
 abbrev Kinded : Token → Type 0
 Kinded x = eqb x.kind kinds.F_STRING ≡ false
 
-literal_kinded : (x : Literal) → Good x → eqb (kind_of x) kinds.F_STRING ≡ false
-literal_kinded (Literal.Is k v d) f = F→eq (eqb k kinds.F_STRING) (λ h. T_not (one_of k (kinds.F_STRING ∷ [])) (apart literal_kinds (kinds.F_STRING ∷ []) k tt (f tt)) (or_l (eqb k kinds.F_STRING) false h))
-literal_kinded Literal.None f = refl
+literal_kinded : (x : Worth) → Good x → eqb (kind_of x) kinds.F_STRING ≡ false
+literal_kinded (Some x) f = F→eq (eqb x.kind kinds.F_STRING) (λ h. T_not (one_of x.kind (kinds.F_STRING ∷ [])) (apart literal_kinds (kinds.F_STRING ∷ []) x.kind tt (f tt)) (or_l (eqb x.kind kinds.F_STRING) false h))
+literal_kinded None f = refl
 
 after_kinded : (b c : Bool) (r : Refusal) (x : Token) (j : ℕ) → look_after b c r ≡ found x j → Kinded x
 after_kinded true c r x j e = absurd (never_over e)
@@ -133,8 +135,8 @@ after_kinded false true r x j e = subst Kinded (same_token e) refl
 after_kinded false false r x j e = absurd (never_wrong e)
 
 look_kinded : (s : List ℕ) (t : Step) (x : Token) (j : ℕ) → look_of s t ≡ found x j → Kinded x
-look_kinded s (Taken w a next) x j e = subst Kinded (same_token e) (literal_kinded (literal_of (code_of w) (slice a next.at s)) (good_literal (code_of w) (slice a next.at s)))
-look_kinded s (Refused r) x j e = after_kinded (eqb r.number 11) (eqb r.number 5) r x j e
+look_kinded s (Ok (w, a, next)) x j e = subst Kinded (same_token e) (literal_kinded (literal_of (code_of w) (slice a next.at s)) (good_literal (code_of w) (slice a next.at s)))
+look_kinded s (Err r) x j e = after_kinded (eqb r.number 11) (eqb r.number 5) r x j e
 
 pub token_kinded : (s : List ℕ) (i : ℕ) (x : Token) (j : ℕ) → (source s).look i ≡ found x j → Kinded x
 token_kinded s i x j e = look_kinded s (step_at s i) x j e
@@ -143,12 +145,12 @@ abbrev Texty : Token → Type 0
 Texty x = T (one_of x.word (text_then_hole ∷ last_text ∷ []))
 
 text_word : (w a e : ℕ) (n : Size) → (text_token w a e n).word ≡ w
-text_word w a e (Size.Is n) = refl
-text_word w a e Size.None = refl
+text_word w a e (Some n) = refl
+text_word w a e None = refl
 
-piece_texty : (s : List ℕ) (at : ℕ) (t : Part) (x : Token) (j : ℕ) → piece_of s at t ≡ found x j → Texty x
-piece_texty s at (Before e) x j h = subst Texty (same_token h) (subst (λ (n : ℕ). T (one_of n (text_then_hole ∷ last_text ∷ []))) (sym (text_word text_then_hole at e (text_of (slice at e s)))) tt)
-piece_texty s at (Ends e) x j h = subst Texty (same_token h) (subst (λ (n : ℕ). T (one_of n (text_then_hole ∷ last_text ∷ []))) (sym (text_word last_text at e (text_of (slice at e s)))) tt)
+piece_texty : (s : List ℕ) (at : ℕ) (t : Scanned) (x : Token) (j : ℕ) → piece_of s at t ≡ found x j → Texty x
+piece_texty s at (Some (Before e)) x j h = subst Texty (same_token h) (subst (λ (n : ℕ). T (one_of n (text_then_hole ∷ last_text ∷ []))) (sym (text_word text_then_hole at e (text_of (slice at e s)))) tt)
+piece_texty s at (Some (Ends e)) x j h = subst Texty (same_token h) (subst (λ (n : ℕ). T (one_of n (text_then_hole ∷ last_text ∷ []))) (sym (text_word last_text at e (text_of (slice at e s)))) tt)
 piece_texty s at None x j h = absurd (never_over h)
 
 module _ (s : List ℕ) where

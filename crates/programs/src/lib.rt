@@ -1,20 +1,22 @@
 // What the programs behind the commands share: how they are asked, the room that they have, how they read and write, and how they end. Promises
-// nothing but to be safe and to end.
+// little but to be safe and to end.
 #![tactic(auto)]
 
-ghost use Rattle.std.specs.Prelude.{◌≤◌, length, IfOk, IfSome};
+ghost use Rattle.std.specs.Prelude.{◌≡◌, ◌≤◌, length, IfOk, IfSome, OnErr};
 
 use std::alloc::{AllocError, Global};
 use std::env::FillError;
+use std::fmt::Display;
 use std::io::{Error, Read, Stdout, Write};
 use std::rt::Env;
 
-// What a command ends with.
-pub const ACCEPTED: u8 = b'0';
-
-pub const REFUSED: u8 = b'1';
-
-pub const FAILED: u8 = b'2';
+// What a command ends with, by its number.
+#[derive(Clone, Copy, Debug, PartialEq, Eq)]
+pub enum Ending {
+    Accepted,
+    Refused,
+    Failed,
+}
 
 const STDERR_FILENO: i32 = 2;
 
@@ -29,12 +31,12 @@ pub fn rows_table() -> [u64; MOST_ROWS * rows::WIDTH] {
     [0; MOST_ROWS * rows::WIDTH]
 }
 
-// The first letter of a program's argument, and 0 without one.
-pub fn asked(rt: &impl Env) -> u8 {
+// The first letter of a program's argument.
+pub fn asked(rt: &impl Env) -> Option<u8> {
     let mut word = [0u8; 16];
     match rt.arg(1, &mut word) {
-        Err(FillError::NotPresent) => 0,
-        _ => word[0],
+        Err(FillError::NotPresent) => None,
+        _ => Some(word[0]),
     }
 }
 
@@ -50,10 +52,9 @@ pub fn arguments(rt: &impl Env) -> usize {
 }
 
 // Tells the command that called this program what to end with. A program without arguments has no such caller.
-pub fn status(rt: &impl Env, what: u8) {
+pub fn status(rt: &impl Env, what: Ending) {
     if 1 < arguments(rt) {
-        let word = [what; 1];
-        io::write_all(STATUS_FILENO, &word);
+        io::write_all(STATUS_FILENO, &[b'0' + what as u8]);
     }
 }
 
@@ -74,30 +75,31 @@ pub fn fail(alloc: Global, what: &[u8], why: &Error) {
 fn reason(alloc: Global, why: &Error) -> Result<(), AllocError> {
     let text = format!(in alloc; "{why}")?;
     let all = text.as_str();
-    let end = all.find(CODE).unwrap_or(all.len());
-    io::write_all(STDERR_FILENO, &all.as_bytes()[..end]);
+    let words = all.split_once(CODE).map_or(all, |(words, _)| words);
+    io::write_all(STDERR_FILENO, words.as_bytes());
     Ok(())
 }
 
-// Reads until the buffer is full or the input ends; how many bytes.
-pub fn read(input: &mut impl Read, buffer: &mut [u8]) -> Result<usize, Error>
-    ensures { IfOk result (λ n. n ≤ length buffer.new) }
+// Reads until the buffer is full or the input ends: the part that was read.
+// kept: no method of the library reads so far and no farther, and the place moves by what each read gives.
+pub fn read<'b>(input: &mut impl Read, buffer: &'b mut [u8]) -> Result<&'b mut [u8], Error>
+    ensures { IfOk result (λ part. length part.now ≤ length buffer.old) }
 {
     let mut done = 0;
     while done < buffer.len() {
         let n = input.read(&mut buffer[done..])?;
         if n == 0 {
-            return Ok(done);
+            break;
         }
         done += n;
     }
-    Ok(done)
+    Ok(&mut buffer[..done])
 }
 
-// Says that standard input couldn't be read, and what to end with.
-pub fn unread(rt: &(impl Env + AllocGlobal), why: &Error) {
-    fail(rt.alloc(), b"standard input", why);
-    status(rt, FAILED);
+// Says that something couldn't be had, and what to end with.
+fn give_up(rt: &(impl Env + AllocGlobal), what: &[u8], why: &Error) {
+    fail(rt.alloc(), what, why);
+    status(rt, Ending::Failed);
 }
 
 // The system's numbers for why an argument can't be had: there is none, and it is too long.
@@ -113,21 +115,30 @@ pub fn lacking(why: FillError) -> Error {
     }
 }
 
-// Says that there is no argument, or one that is too long, and what to end with.
-pub fn unnamed(rt: &(impl Env + AllocGlobal), why: FillError) {
-    fail(rt.alloc(), b"a name", &lacking(why));
-    status(rt, FAILED);
+// The first argument, which is a name; none if it can't be had, which is said then.
+pub fn name<'b>(rt: &(impl Env + AllocGlobal), buffer: &'b mut [u8]) -> Option<&'b [u8]>
+    ensures { IfSome result (λ name. length name.now ≤ length buffer.old) }
+{
+    match rt.arg(1, buffer) {
+        Ok(length) => Some(&buffer[..length]),
+        Err(why) => {
+            give_up(rt, b"a name", &lacking(why));
+            None
+        }
+    }
 }
 
-// Standard input, as far as the buffer reaches; how many bytes, or none if it couldn't be read, which is said then.
-pub fn source(rt: &(impl Env + Input + AllocGlobal), buffer: &mut [u8]) -> Option<usize>
-    ensures { IfSome result (λ n. n ≤ length buffer.new) }
+// Standard input, as far as the buffer reaches; none if it couldn't be read, which is said then.
+pub fn source<'b>(
+    rt: &(impl Env + Input + AllocGlobal),
+    buffer: &'b mut [u8],
+) -> Option<&'b mut [u8]>
+    ensures { IfSome result (λ source. length source.now ≤ length buffer.old) }
 {
-    let mut input = rt.reader();
-    match read(&mut input, buffer) {
-        Ok(n) => Some(n),
+    match read(&mut rt.reader(), buffer) {
+        Ok(source) => Some(source),
         Err(why) => {
-            unread(rt, &why);
+            give_up(rt, b"standard input", &why);
             None
         }
     }
@@ -137,57 +148,71 @@ pub fn source(rt: &(impl Env + Input + AllocGlobal), buffer: &mut [u8]) -> Optio
 #[derive(Clone, Copy)]
 pub struct Out {
     stdout: Stdout,
-    failed: Option<Error>,
+    written: Result<(), Error>,
 }
 
 impl Out {
-    pub fn new(stdout: Stdout) -> Out {
+    pub fn new(stdout: Stdout) -> Out
+        ensures { result.written ≡ Ok tt }
+    {
         Out {
             stdout,
-            failed: None,
+            written: Ok(()),
         }
     }
 
-    pub fn say(&mut self, text: &[u8]) {
-        if self.failed.is_none() {
-            let mut to = self.stdout;
-            if let Err(why) = to.write_all(text) {
-                self.failed = Some(why);
-            }
-        }
+    // Bytes as they are.
+    pub fn say(&mut self, text: &[u8])
+        ensures { OnErr self.old.written (self.new.written ≡ self.old.written) }
+    {
+        self.written = self.written.and_then(|()| self.stdout.write_all(text));
     }
 
-    pub fn decimal(&mut self, n: u64) {
-        let mut digits = [0u8; 20];
-        let count = io::decimal(n, &mut digits);
-        self.say(&digits[..count]);
-    }
-
-    pub fn hex(&mut self, n: u64, width: usize) {
-        let mut digits = [0u8; 16];
-        let count = io::hex(n, width, &mut digits);
-        self.say(&digits[..count]);
+    // A text, a number or a format.
+    pub fn print(&mut self, what: impl Display + Drop)
+        ensures { OnErr self.old.written (self.new.written ≡ self.old.written) }
+    {
+        self.written = self.written.and_then(|()| self.stdout.write_fmt(what));
     }
 
     // Whether all of it was written.
-    pub fn written(&self) -> Result<(), Error> {
-        match self.failed {
-            Some(why) => Err(why),
-            None => Ok(()),
-        }
+    pub fn written(&self) -> Result<(), Error>
+        ensures { result ≡ self.now.written }
+    {
+        self.written
     }
 }
 
 // The end of a program that accepted or refused what it read, and wrote its answer, or couldn't.
 pub fn end(rt: &(impl Env + AllocGlobal), accepted: bool, written: Result<(), Error>) {
-    if let Err(why) = written {
-        fail(rt.alloc(), b"standard output", &why);
-        status(rt, FAILED);
-        return;
+    match written {
+        Err(why) => give_up(rt, b"standard output", &why),
+        Ok(()) if accepted => status(rt, Ending::Accepted),
+        Ok(()) => status(rt, Ending::Refused),
     }
-    if accepted {
-        status(rt, ACCEPTED);
-    } else {
-        status(rt, REFUSED);
-    }
+}
+
+// A whole program: has what is on standard input answered, and ends by whether it was accepted, which is the result; none if it couldn't be read.
+// The buffer is as long as the input can be.
+pub fn run_in<F: FnOnce(&mut Out, &[u8]) -> bool + Drop>(
+    rt: &HostRuntime,
+    buffer: &mut [u8],
+    answer: F,
+) -> Option<bool>
+    requires { F.IsAlwaysCallable answer }
+    ensures { IfSome result (λ accepted. (out : _) × (source : _) × (after : _) × F.post answer out source accepted after × out.now.written ≡ Ok tt × length source.now ≤ length buffer.old) }
+{
+    let source = source(rt, buffer)?;
+    let mut out = Out::new(rt.stdout());
+    let accepted = answer(&mut out, source);
+    end(rt, accepted, out.written());
+    Some(accepted)
+}
+
+// The same, for a source.
+pub fn run<F: FnOnce(&mut Out, &[u8]) -> bool + Drop>(rt: &HostRuntime, answer: F) -> Option<bool>
+    requires { F.IsAlwaysCallable answer }
+    ensures { IfSome result (λ accepted. (out : _) × (source : _) × (after : _) × F.post answer out source accepted after × out.now.written ≡ Ok tt) }
+{
+    run_in(rt, &mut io::large_buffer(), answer)
 }

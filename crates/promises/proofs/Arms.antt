@@ -1,5 +1,6 @@
 -- The arms of a match. ARMS and ARM are phrases of their own, each with the arms behind it inside: what one leaves, the other
 -- leaves too, so that they can be read one behind the other.
+use Rattle.std.specs.Prelude.{Ok, Err}
 use mathlib.Core.Path.{◌≡◌, refl, sym, ap, subst, ◌∙◌}
 use mathlib.Core.List.{List, [], ◌∷◌, ◌++◌, append_assoc, append-nil}
 use mathlib.Core.Bool.{Bool, true, false, cond}
@@ -27,12 +28,12 @@ use Rattle.grammar.proofs.Summary.{or_word}
 use Rattle.grammar.proofs.Frame.{write_phrase}
 use Rattle.grammar.proofs.Open.{Left, Open, with_phrase, start, finish, pop, reads, Runs, Fails, tail}
 use Rattle.answers.specs.Source.{source}
+use Rattle.parser.specs.Results.{ArmRead}
 use Rattle.parser.specs.declared.Arm.{Arm}
 use Rattle.parser.specs.declared.Here.{Here}
 use Rattle.parser.specs.declared.Limits.{Limits}
 use Rattle.parser.specs.declared.Node.{Node}
-use Rattle.parser.specs.declared.Read.{Read}
-use Rattle.parser.specs.declared.Read.TheVariants.{Done, Refused}
+use Rattle.parser.specs.Results.{Read}
 use Rattle.parser.specs.Places.{word_of, end_of, next_of, passed, later, unused, node_of, put_over, plain_row, expected}
 use Rattle.parser.specs.Counted.{counts, plain as plainly}
 use Rattle.parser.specs.Going.{language, Stands, Tally, many, lone, with_node, Phrase, Going, Stopped, Answers}
@@ -156,26 +157,26 @@ pub arm_further : {f : Phrase} {ks : List Left} {h : Here} {t : List ℕ} → Ar
 arm_further {f} b = let u = b.around in let c = u.counted in let p = u.spares in record { stands = u.stands; next = omega (arith, c, p); rows = omega (arith, c); kept = ap length u.stored ∙ store_length f.table f.from.rows u.draft.rows }
 
 -- what an arm's answer says, and the answer that says it
-module _ {f : Phrase} {r q : Arm} {t : List ℕ} where
+module _ {f : Phrase} {r q : ArmRead} {t : List ℕ} where
   pub armed : OneArm f r t → r ≡ q → ArmIs f q t
-  armed u e = subst (λ (j : Arm). ArmIs f j t) e u.is
+  armed u e = subst (λ (j : ArmRead). ArmIs f j t) e u.is
 
   arm_is : r ≡ q → ArmIs f q t → OneArm f r t
-  arm_is e u = record { is = subst (λ (j : Arm). ArmIs f j t) (sym e) u }
+  arm_is e u = record { is = subst (λ (j : ArmRead). ArmIs f j t) (sym e) u }
 
-arm_stops : {f : Phrase} {r : Read} {v : Arm} {t : List ℕ} {x : Refusal} → v ≡ last_arm r → r ≡ Refused x → Stopped f x t → OneArm f v t
+arm_stops : {f : Phrase} {r : Read} {v : ArmRead} {t : List ℕ} {x : Refusal} → v ≡ last_arm r → r ≡ Err x → Stopped f x t → OneArm f v t
 unfolding last_arm
 arm_stops i e u = arm_is (i ∙ ap last_arm e) u
 
 -- what an arm promises
-abbrev pub ArmOf : List ℕ → Counts → Here → List ℕ → Arm → List ℕ → Type 0
+abbrev pub ArmOf : List ℕ → Counts → Here → List ℕ → ArmRead → List ℕ → Type 0
 ArmOf s d h t r t' = OneArm (the s d ARM h t) r t'
 
-arm_of : {x s : List ℕ} {d : Counts} {h : Here} {t : List ℕ} {r : Arm} {t' : List ℕ} → x ≡ s → ArmOf s d h t r t' → ArmOf x d h t r t'
+arm_of : {x s : List ℕ} {d : Counts} {h : Here} {t : List ℕ} {r : ArmRead} {t' : List ℕ} → x ≡ s → ArmOf s d h t r t' → ArmOf x d h t r t'
 arm_of {d = d} {h = h} {t = t} {r = r} {t' = t'} q u = subst (λ (y : List ℕ). ArmOf y d h t r t') (sym q) u
 
-module _ {s : List ℕ} {l : Limits} {c₀ c : ℕ} {h₀ h : Here} {t₀ t : List ℕ} (b : Gone s l c₀ h₀ t₀ c h t) (w : T (one_of (word_of h) names)) {r : Arm} {t' : List ℕ} (u : ArmOf s (counts l) h t r t') where
-  pub gone_on : {z : Here} → r ≡ Arm.Followed z → Gone s l c₀ h₀ t₀ (c + 1) z t'
+module _ {s : List ℕ} {l : Limits} {c₀ c : ℕ} {h₀ h : Here} {t₀ t : List ℕ} (b : Gone s l c₀ h₀ t₀ c h t) (w : T (one_of (word_of h) names)) {r : ArmRead} {t' : List ℕ} (u : ArmOf s (counts l) h t r t') where
+  pub gone_on : {z : Here} → r ≡ Ok (Arm.Followed z) → Gone s l c₀ h₀ t₀ (c + 1) z t'
   gone_on {z} e =
       let y : Further s h t z t' = arm_further (armed u e) in
       let p = b.next in
@@ -198,18 +199,18 @@ module _ {s : List ℕ} {l : Limits} {start c : ℕ} {h₀ h : Here} {t₀ t : L
   pub arms_end : {since : ℕ} {v : Row} {r : Read} {t' : List ℕ} → (T (one_of (word_of h) names) → ⊥) → v ≡ plain_row kinds.MATCH start (end_of h) c → Closed s h t close_brace v since r t' → Matched s h₀ t₀ l start since r t'
   arms_end {r = r} n o k f d e w q i z g = leaves_row r (omega arith) (closes_row (out (arms_none n (armed_so q z g).going)) refl refl o (closed_by q i k))
 
-  module _ (w : T (one_of (word_of h) names)) {r : Arm} {t' : List ℕ} (u : ArmOf s (counts l) h t r t') where
-    pub arms_fail : (since : ℕ) {x : Refusal} {r' : Read} → r ≡ Arm.Refused x → r' ≡ Refused x → Matched s h₀ t₀ l start since r' t'
+  module _ (w : T (one_of (word_of h) names)) {r : ArmRead} {t' : List ℕ} (u : ArmOf s (counts l) h t r t') where
+    pub arms_fail : (since : ℕ) {x : Refusal} {r' : Read} → r ≡ Err x → r' ≡ Err x → Matched s h₀ t₀ l start since r' t'
     unfolding inside
     arms_fail since x o f d e i q j z g = let y = (armed_so q z g).going in stopped o (refuses_in y refl (refuses_in (begins_on arms_on y.stands w) refl (armed (arm_of q u) x)))
 
-    pub arms_last : {since : ℕ} {z : Here} {v : Row} {r₁ : Read} {t₁ : List ℕ} → r ≡ Arm.Last z → v ≡ plain_row kinds.MATCH start (end_of z) (c + 1) → Closed s z t' close_brace v since r₁ t₁ → Matched s h₀ t₀ l start since r₁ t₁
+    pub arms_last : {since : ℕ} {z : Here} {v : Row} {r₁ : Read} {t₁ : List ℕ} → r ≡ Ok (Arm.Last z) → v ≡ plain_row kinds.MATCH start (end_of z) (c + 1) → Closed s z t' close_brace v since r₁ t₁ → Matched s h₀ t₀ l start since r₁ t₁
     arms_last {z = j} {v = v} {r₁ = r₁} {t₁ = t₁} x o k f d e i q n z g =
         let m : Armed (the f.text (counts l) ARM h t) [] j t' = armed (arm_of q u) x in
         leaves_row r₁ (omega arith) (closes_row (fewer 1 (omega arith) (out (arm_last w (armed_so q z g).going m.around))) refl refl o (closed_by q n k))
 
 -- perhaps `if expr`
-pub guard_none : (l : Limits) {s : List ℕ} {h : Here} {t : List ℕ} {r : Read} → word_of h ≢ 69 → r ≡ Done (part_of 0) h → Guarded s h t l r t
+pub guard_none : (l : Limits) {s : List ℕ} {h : Here} {t : List ℕ} {r : Read} → word_of h ≢ 69 → r ≡ Ok (part_of 0, h) → Guarded s h t l r t
 guard_none l {h = h} {t = t} n j f d ss ks x e c k w q z g = partly j (record { end = e; sign = w; one = omega arith; going = subst (λ (i : ℕ). Going f (at d ss ∷ ks) h t (many x e i w) 0 k) (omega arith) (out (into_off guard_off refl (λ m. n (the_word m)) g)) })
 
 guard_word : {f : Phrase} {s : List ℕ} {h h₁ : Here} {t : List ℕ} {d : Counts} {ss : List Symbol} {ks : List Left} {x e c k : ℕ} {w : Option ℕ} → word_of h ≡ 69 → h₁ ≡ passed s h → f.text ≡ s → Going f (at d (a GUARD ∷ ss) ∷ ks) h t (many x e c w) 0 k → Going f (at (after plain d) (a (EXPR records) ∷ part ∷ []) ∷ at d ss ∷ ks) h₁ t (many x (end_of h) c (or_word w (word_of h))) 0 (k + 4)
@@ -217,11 +218,11 @@ unfolding inside kept
 guard_word {h = h} {h₁ = h₁} i j q g = takes (into_on guard_on refl (is_word i) g) tt (is_word i) tt (subst (λ (y : List ℕ). h₁ ≡ passed y h) (sym q) j)
 
 module _ (l : Limits) {s : List ℕ} {h h₁ : Here} {t : List ℕ} {l₁ : Limits} (i : word_of h ≡ 69) (j : h₁ ≡ passed s h) (p : l₁ ≡ plainly l) {r : Read} {t₁ : List ℕ} (u : Answers (the s (counts l₁) (EXPR records) h₁ t) 1 r t₁) where
-  pub guard_fails : {y : Refusal} → r ≡ Refused y → Guarded s h t l r t₁
+  pub guard_fails : {y : Refusal} → r ≡ Err y → Guarded s h t l r t₁
   unfolding inside
   guard_fails y f d ss ks x e c k w q z g = partly_stops y (refuses_it q (counts_behind l z p) u (guard_word i j q g) y)
 
-  pub guard_ends : {m : Node} {z : Here} {r₁ : Read} → r ≡ Done m z → r₁ ≡ Done (part_of 1) z → Guarded s h t l r₁ t₁
+  pub guard_ends : {m : Node} {z : Here} {r₁ : Read} → r ≡ Ok (m, z) → r₁ ≡ Ok (part_of 1, z) → Guarded s h t l r₁ t₁
   unfolding inside
   guard_ends {m} v y f d ss ks x e c k w q z g = partly y (record { end = m.end; sign = or_word w (word_of h); one = omega arith; going = fewer k (omega arith) (out (parts (reads_it q (counts_behind l z p) u (guard_word i j q g) refl v))) })
 
@@ -247,61 +248,61 @@ around_last : {f : Phrase} {ks : List Left} {h : Here} {t : List ℕ} {m : Node}
 around_last {f} {ks} {h} {t} {n = n} {o = o} e g = record { draft = g.draft; opened = subst (λ (x : Counts). Open (source f.text) language f.counts same f.kind f.from.place (at x (phrase o n ∷ []) ∷ ks) h.place g.draft) e (tail (source f.text) language g.opened); stands = g.stands; leaves = g.leaves; rows = g.rows; stored = g.stored; sized = g.sized; counted = g.counted; spares = let x = g.spares in omega (arith, x) }
 
 -- behind a block a comma may stand; behind an expr it must, where another arm follows
-module _ {f : Phrase} {h : Here} {t : List ℕ} {j x e v : ℕ} (begin : ℕ) {r : Arm} (u : r ≡ arm_end f.text h begin) where
+module _ {f : Phrase} {h : Here} {t : List ℕ} {j x e v : ℕ} (begin : ℕ) {r : ArmRead} (u : r ≡ arm_end f.text h begin) where
   comma_block : begin ≡ open_brace → Going f (at f.counts (a ARM_COMMA ∷ a ARMS ∷ []) ∷ at f.counts [] ∷ []) h t (lone j x e) v 1 → OneArm f r t
   unfolding inside kept
-  comma_block b g = subst (λ (k : Arm). OneArm f k t) (sym (u ∙ ap (arm_end f.text h) b)) (go (eqb (word_of h) comma) refl)
+  comma_block b g = subst (λ (k : ArmRead). OneArm f k t) (sym (u ∙ ap (arm_end f.text h) b)) (go (eqb (word_of h) comma) refl)
     where
-      go : (y : Bool) → eqb (word_of h) comma ≡ y → OneArm f (cond y (Arm.Followed (passed f.text h)) (Arm.Followed h)) t
+      go : (y : Bool) → eqb (word_of h) comma ≡ y → OneArm f (cond y (Ok (Arm.Followed (passed f.text h))) (Ok (Arm.Followed h))) t
       go true y = let m = is_word (eqb→eq (word_of h) comma (subst T (sym y) tt)) in record { is = record { node = _; around = around_last refl (encloses_out (encloses_word (around_of (into_on arm_comma_on refl m g)) tt m tt refl)) } }
       go false y = record { is = record { node = _; around = around_of (last (out (into_off arm_comma_off refl (λ m. subst T (ap (eqb (word_of h)) (the_word m) ∙ y) (eqb_refl (word_of h))) g))) } }
 
   comma_expr : after plain f.counts ≡ f.counts → begin ≢ open_brace → Going f (at f.counts (a ARM_NEXT ∷ []) ∷ at f.counts [] ∷ []) h t (lone j x e) v 1 → OneArm f r t
   unfolding inside kept
-  comma_expr o b g = subst (λ (k : Arm). OneArm f k t) (sym (u ∙ ap (λ (y : Bool). cond (eqb (word_of h) comma) (Arm.Followed (passed f.text h)) (cond y (Arm.Followed h) (Arm.Last h))) (F→eq (eqb begin open_brace) (λ y. b (eqb→eq begin open_brace y))))) (go (eqb (word_of h) comma) refl)
+  comma_expr o b g = subst (λ (k : ArmRead). OneArm f k t) (sym (u ∙ ap (λ (y : Bool). cond (eqb (word_of h) comma) (Ok (Arm.Followed (passed f.text h))) (cond y (Ok (Arm.Followed h)) (Ok (Arm.Last h)))) (F→eq (eqb begin open_brace) (λ y. b (eqb→eq begin open_brace y))))) (go (eqb (word_of h) comma) refl)
     where
-      go : (y : Bool) → eqb (word_of h) comma ≡ y → OneArm f (cond y (Arm.Followed (passed f.text h)) (Arm.Last h)) t
+      go : (y : Bool) → eqb (word_of h) comma ≡ y → OneArm f (cond y (Ok (Arm.Followed (passed f.text h))) (Ok (Arm.Last h))) t
       go true y = let m = is_word (eqb→eq (word_of h) comma (subst T (sym y) tt)) in record { is = record { node = _; around = around_last o (encloses_word (around_of (into_on arm_next_on refl m (last g))) tt m tt refl) } }
       go false y = record { is = record { node = _; around = around_of (out (out (into_off arm_next_off refl (λ m. subst T (ap (eqb (word_of h)) (the_word m) ∙ y) (eqb_refl (word_of h))) (last g)))) } }
 
 -- an arm: its pattern, perhaps a guard, `=>`, its body, its row, perhaps a comma
 module _ (l : Limits) {s : List ℕ} {h : Here} {t : List ℕ} (g : Stands s h) {r₁ : Read} {t₁ : List ℕ} (u₁ : Answers (the s (counts l) PATTERN h t) 1 r₁ t₁) where
-  pub arm_pattern_fails : {x : Refusal} {v : Arm} → r₁ ≡ Refused x → v ≡ last_arm r₁ → ArmOf s (counts l) h t v t₁
+  pub arm_pattern_fails : {x : Refusal} {v : ArmRead} → r₁ ≡ Err x → v ≡ last_arm r₁ → ArmOf s (counts l) h t v t₁
   unfolding inside
   arm_pattern_fails x i = arm_stops i x (refuses_in (begins_any arm_any g) refl (stopped_of u₁ x))
 
-  module _ {m₁ : Node} {h₁ : Here} (e₁ : r₁ ≡ Done m₁ h₁) {r₂ : Read} {t₂ : List ℕ} (u₂ : Guarded s h₁ t₁ l r₂ t₂) where
+  module _ {m₁ : Node} {h₁ : Here} (e₁ : r₁ ≡ Ok (m₁, h₁)) {r₂ : Read} {t₂ : List ℕ} (u₂ : Guarded s h₁ t₁ l r₂ t₂) where
     arm_guard : Partly (the s (counts l) ARM h t) r₂ t₂ (λ m z. Perhaps (the s (counts l) ARM h t) (at (counts l) (word '=>' ∷ a ARM_BODY ∷ []) ∷ []) m₁.start 1 1 m.children z t₂)
     unfolding inside
     arm_guard = u₂ (the s (counts l) ARM h t) (counts l) (word '=>' ∷ a ARM_BODY ∷ []) [] m₁.start m₁.end 1 1 none refl refl (as_many (reads_one (begins_any arm_any g) refl refl (whole_of u₁ e₁)))
 
-    pub arm_guard_fails : {x : Refusal} {v : Arm} → r₂ ≡ Refused x → v ≡ last_arm r₂ → ArmOf s (counts l) h t v t₂
+    pub arm_guard_fails : {x : Refusal} {v : ArmRead} → r₂ ≡ Err x → v ≡ last_arm r₂ → ArmOf s (counts l) h t v t₂
     arm_guard_fails x i = arm_stops i x (partly_stopped arm_guard x)
 
-    module _ {m₂ : Node} {h₂ : Here} (e₂ : r₂ ≡ Done m₂ h₂) where
+    module _ {m₂ : Node} {h₂ : Here} (e₂ : r₂ ≡ Ok (m₂, h₂)) where
       -- the guard is one row at most; how far the arm has come
       pub arm_guarded : Perhaps (the s (counts l) ARM h t) (at (counts l) (word '=>' ∷ a ARM_BODY ∷ []) ∷ []) m₁.start 1 1 m₂.children h₂ t₂
       arm_guarded = partly_of arm_guard e₂
 
       module _ {r₃ : Read} (u₃ : r₃ ≡ expected s h₂ 21) where
-        pub arm_arrow_fails : {x : Refusal} {v : Arm} → r₃ ≡ Refused x → v ≡ last_arm r₃ → ArmOf s (counts l) h t v t₂
+        pub arm_arrow_fails : {x : Refusal} {v : ArmRead} → r₃ ≡ Err x → v ≡ last_arm r₃ → ArmOf s (counts l) h t v t₂
         arm_arrow_fails x i = arm_stops i x (misses 21 arm_guarded.going tt u₃ x)
 
-        pub arm_arrow : {m₃ : Node} {h₃ : Here} → r₃ ≡ Done m₃ h₃ → Going (the s (counts l) ARM h t) (at (after plain (counts l)) (a ARM_BODY ∷ []) ∷ []) h₃ t₂ (many m₁.start m₃.end (1 + m₂.children) (or_word arm_guarded.sign 21)) m₂.children 5
+        pub arm_arrow : {m₃ : Node} {h₃ : Here} → r₃ ≡ Ok (m₃, h₃) → Going (the s (counts l) ARM h t) (at (after plain (counts l)) (a ARM_BODY ∷ []) ∷ []) h₃ t₂ (many m₁.start m₃.end (1 + m₂.children) (or_word arm_guarded.sign 21)) m₂.children 5
         arm_arrow e₃ = expects 21 arm_guarded.going tt u₃ e₃
 
-        module _ {m₃ : Node} {h₃ : Here} (e₃ : r₃ ≡ Done m₃ h₃) {l₁ : Limits} (p : l₁ ≡ plainly l) {r₄ : Read} {t₄ : List ℕ} (u₄ : Bodied s h₃ t₂ l₁ r₄ t₄) where
+        module _ {m₃ : Node} {h₃ : Here} (e₃ : r₃ ≡ Ok (m₃, h₃)) {l₁ : Limits} (p : l₁ ≡ plainly l) {r₄ : Read} {t₄ : List ℕ} (u₄ : Bodied s h₃ t₂ l₁ r₄ t₄) where
           arm : Partly (the s (counts l) ARM h t) r₄ t₄ (λ m z. (word_of h₃ ≡ open_brace → Going (the s (counts l) ARM h t) (at (after plain (counts l)) (row kinds.ARM ∷ a ARM_COMMA ∷ a ARMS ∷ []) ∷ at (after plain (counts l)) [] ∷ []) z t₄ (many m₁.start m.end (1 + m₂.children + 1) (or_word arm_guarded.sign 21)) m₂.children 6) × (word_of h₃ ≢ open_brace → Going (the s (counts l) ARM h t) (at (after plain (counts l)) (row kinds.ARM ∷ a ARM_NEXT ∷ []) ∷ at (after plain (counts l)) [] ∷ []) z t₄ (many m₁.start m.end (1 + m₂.children + 1) (or_word arm_guarded.sign 21)) m₂.children 6))
           arm = u₄ (the s (counts l) ARM h t) (after plain (counts l)) [] _ _ 5 refl (counts_behind l refl p) (arm_arrow e₃)
 
-          pub arm_fails : {x : Refusal} {v : Arm} → r₄ ≡ Refused x → v ≡ last_arm r₄ → ArmOf s (counts l) h t v t₄
+          pub arm_fails : {x : Refusal} {v : ArmRead} → r₄ ≡ Err x → v ≡ last_arm r₄ → ArmOf s (counts l) h t v t₄
           arm_fails x i = arm_stops i x (partly_stopped arm x)
 
-          module _ {m₄ : Node} {h₄ : Here} (e₄ : r₄ ≡ Done m₄ h₄) {v : Row} (i : v ≡ record { kind = kinds.ARM; start = m₁.start; end = m₄.end; children = m₂.children + 2; value = m₂.children; detail = 0 }) {r₅ : Read} {t₅ : List ℕ} (u₅ : r₅ ≡ Done (node_of v) (later h₄)) (q : t₅ ≡ put_over t₄ h₄ v h.rows) {m₅ : Node} {h₅ : Here} (e₅ : r₅ ≡ Done m₅ h₅) where
+          module _ {m₄ : Node} {h₄ : Here} (e₄ : r₄ ≡ Ok (m₄, h₄)) {v : Row} (i : v ≡ record { kind = kinds.ARM; start = m₁.start; end = m₄.end; children = m₂.children + 2; value = m₂.children; detail = 0 }) {r₅ : Read} {t₅ : List ℕ} (u₅ : r₅ ≡ Ok (node_of v, later h₄)) (q : t₅ ≡ put_over t₄ h₄ v h.rows) {m₅ : Node} {h₅ : Here} (e₅ : r₅ ≡ Ok (m₅, h₅)) where
             arm_row : {ss : List Symbol} → l.signs ≡ 32 → Going (the s (counts l) ARM h t) (at (after plain (counts l)) (row kinds.ARM ∷ ss) ∷ at (after plain (counts l)) [] ∷ []) h₄ t₄ (many m₁.start m₄.end (1 + m₂.children + 1) (or_word arm_guarded.sign 21)) m₂.children 6 → Going (the s (counts l) ARM h t) (at (counts l) ss ∷ at (counts l) [] ∷ []) h₅ t₅ (lone v.kind v.start v.end) 0 1
             arm_row {ss} o x = subst (λ (d : Counts). Going (the s (counts l) ARM h t) (at d ss ∷ at d [] ∷ []) h₅ t₅ (lone v.kind v.start v.end) 0 1) (counts_same l o) (writes (fewer 2 (omega arith) x) refl refl (i ∙ ap (λ (c : ℕ). record { kind = kinds.ARM; start = m₁.start; end = m₄.end; children = c; value = m₂.children; detail = 0 }) (omega arith)) (sym (done_is u₅ e₅).1) q)
 
-            pub arm_ends : {r : Arm} → l.signs ≡ 32 → r ≡ arm_end s h₅ (word_of h₃) → ArmOf s (counts l) h t r t₅
+            pub arm_ends : {r : ArmRead} → l.signs ≡ 32 → r ≡ arm_end s h₅ (word_of h₃) → ArmOf s (counts l) h t r t₅
             arm_ends {r} o x = go (eqb (word_of h₃) open_brace) refl
               where
                 go : (b : Bool) → eqb (word_of h₃) open_brace ≡ b → ArmOf s (counts l) h t r t₅

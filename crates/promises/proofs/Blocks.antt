@@ -1,4 +1,5 @@
 -- Blocks: their statements one by one, how each ended, and the `}` that closes them.
+use Rattle.std.specs.Prelude.{Ok, Err}
 use mathlib.Core.Path.{◌≡◌, refl, sym, ap, subst, ◌∙◌}
 use mathlib.Core.List.{List, [], ◌∷◌}
 use mathlib.Core.Bool.{Bool, true, false}
@@ -22,8 +23,8 @@ use Rattle.grammar.proofs.Open.{Left}
 use Rattle.parser.specs.declared.Here.{Here}
 use Rattle.parser.specs.declared.Limits.{Limits}
 use Rattle.parser.specs.declared.Node.{Node}
-use Rattle.parser.specs.declared.Read.{Read}
-use Rattle.parser.specs.declared.Read.TheVariants.{Done, Refused}
+use Rattle.parser.specs.Results.{Read}
+use Rattle.parser.specs.Results.{StmtRead}
 use Rattle.parser.specs.declared.Stmt.{Stmt}
 use Rattle.parser.specs.Places.{word_of, start_of, end_of, next_of, passed, later, node_of, put_over, past, unused, unused_at, expected, opening, took}
 use Rattle.parser.specs.Counted.{counts, opened, plain as plainly}
@@ -70,15 +71,15 @@ closed_by {x} {s} {n} {since} {h} {t} {w} {q} {r} {t'} e i u = subst (λ (y : Li
 
 -- a part that leaves one row and nothing else of its phrase
 pub leaves_row : {f : Phrase} {d : Counts} {k : ℕ} {t : List ℕ} (r : Read) → 1 ≤ k → Partly f r t (λ m h. Going f (at d [] ∷ []) h t (lone m.kind m.start m.end) 0 k) → Answers f 1 r t
-leaves_row (Done m h) q u = record { is = ends (out (fewer 1 q u.is)) refl refl refl }
-leaves_row (Refused e) q u = record { is = u.is }
+leaves_row (Ok (m, h)) q u = record { is = ends (out (fewer 1 q u.is)) refl refl refl }
+leaves_row (Err e) q u = record { is = u.is }
 
 -- a block
 module _ (s : List ℕ) (l : Limits) (h : Here) (t : List ℕ) {r : Read} (g : Stands s h) (o : r ≡ opening s h open_brace l.brackets) where
-  pub block_refused : {e : Refusal} → r ≡ Refused e → Answers (the s (counts l) BLOCK h t) 1 r t
+  pub block_refused : {e : Refusal} → r ≡ Err e → Answers (the s (counts l) BLOCK h t) 1 r t
   block_refused q = stopped q (opens_off open_brace l (begins_any block_any g) tt (alike_counts l) o q)
 
-  module _ {m : Node} {z : Here} (q : r ≡ Done m z) where
+  module _ {m : Node} {z : Here} (q : r ≡ Ok (m, z)) where
     block_opens : Going (the s (counts l) BLOCK h t) (at (after opens_bracket (counts l)) (a STATEMENTS ∷ closes close_brace ∷ row kinds.BLOCK ∷ []) ∷ []) z t (many m.start m.end 0 (some open_brace)) 0 4
     block_opens = opens_on open_brace l (begins_any block_any g) tt (alike_counts l) o q
 
@@ -129,19 +130,19 @@ module _ {f : Phrase} {d : Counts} {ks : List Left} {x c k : ℕ} {h : Here} {t 
   states_last g n = out (out (parts (into_off after_expr_off refl (λ m. n (the_word m)) g.going)))
 
 -- what a statement's answer says, and the answer that says it
-module _ {f : Phrase} {d : Counts} {ks : List Left} {x c k : ℕ} {r q : Stmt} {t : List ℕ} where
+module _ {f : Phrase} {d : Counts} {ks : List Left} {x c k : ℕ} {r q : StmtRead} {t : List ℕ} where
   stated : r ≡ q → OneStatement f d ks x c k r t → StatementIs f d ks x c k q t
-  stated e u = subst (λ (j : Stmt). StatementIs f d ks x c k j t) e u.is
+  stated e u = subst (λ (j : StmtRead). StatementIs f d ks x c k j t) e u.is
 
   states : r ≡ q → StatementIs f d ks x c k q t → OneStatement f d ks x c k r t
-  states e u = record { is = subst (λ (j : Stmt). StatementIs f d ks x c k j t) (sym e) u }
+  states e u = record { is = subst (λ (j : StmtRead). StatementIs f d ks x c k j t) (sym e) u }
 
-module _ {r : Read} {v : Stmt} (i : v ≡ ended_by r) where
-  ended_done : {m : Node} {z : Here} → r ≡ Done m z → v ≡ Stmt.Ended z
+module _ {r : Read} {v : StmtRead} (i : v ≡ ended_by r) where
+  ended_done : {m : Node} {z : Here} → r ≡ Ok (m, z) → v ≡ Ok (Stmt.Ended z)
   unfolding ended_by
   ended_done e = i ∙ ap ended_by e
 
-  ended_refused : {e : Refusal} → r ≡ Refused e → v ≡ Stmt.Refused e
+  ended_refused : {e : Refusal} → r ≡ Err e → v ≡ Err e
   unfolding ended_by
   ended_refused e = i ∙ ap ended_by e
 
@@ -150,15 +151,15 @@ abbrev pub Goes : List ℕ → Limits → ℕ → ℕ → Here → List ℕ → 
 Goes s l c₀ n₀ h₀ t₀ c n h t = (f : Phrase) (d : Counts) (ks : List Left) (x k : ℕ) → f.text ≡ s → d ≡ counts l → Stating f d ks x c₀ k n₀ h₀ t₀ → Stating f d ks x c k n h t
 
 module _ (s : List ℕ) (l : Limits) {c₀ n₀ : ℕ} {h₀ : Here} {t₀ : List ℕ} {c n : ℕ} {h : Here} {t : List ℕ} (g : Goes s l c₀ n₀ h₀ t₀ c n h t) where
-  module _ (b : T (one_of (word_of h) statement_firsts)) {r : Stmt} {t' : List ℕ} (u : Statement s h t l r t') {z : Here} where
+  module _ (b : T (one_of (word_of h) statement_firsts)) {r : StmtRead} {t' : List ℕ} (u : Statement s h t l r t') {z : Here} where
     -- one more
-    pub goes_ended : r ≡ Stmt.Ended z → Goes s l c₀ n₀ h₀ t₀ (c + 1) 0 z t'
+    pub goes_ended : r ≡ Ok (Stmt.Ended z) → Goes s l c₀ n₀ h₀ t₀ (c + 1) 0 z t'
     goes_ended e f d ks x k p q v =
         let y = g f d ks x k p q v in
         let w : Ended f d ks x c k STATEMENTS z t' = stated e (u f d ks x y.end c k y.sign p q (begins_next n y b)) in
         record { end = w.end; sign = w.sign; one = omega arith; unended = λ o. absurd (o refl); going = w.going }
 
-    pub goes_four : r ≡ Stmt.Four z → Goes s l c₀ n₀ h₀ t₀ (c + 1) 1 z t'
+    pub goes_four : r ≡ Ok (Stmt.Four z) → Goes s l c₀ n₀ h₀ t₀ (c + 1) 1 z t'
     goes_four e f d ks x k p q v =
         let y = g f d ks x k p q v in
         let w : Ended f d ks x c k AFTER_FOUR z t' × (word_of z ≢ semicolon) = stated e (u f d ks x y.end c k y.sign p q (begins_next n y b)) in
@@ -174,29 +175,29 @@ pub record Round (s : List ℕ) (l : Limits) (c₀ n₀ : ℕ) (h₀ : Here) (t�
 pub round_first : {s : List ℕ} {l : Limits} {c n : ℕ} {h : Here} {t : List ℕ} → Stands s h → Round s l c n h t c n h t
 round_first g = record { goes = λ f d ks x k p q v. v; stands = g; next = omega arith; kept = refl }
 
-pub beyond_of : (s : List ℕ) (h : Here) {r : Read} {m : Node} {z : Here} → Beyond s h r → r ≡ Done m z → Stands s z × (next_of h < next_of z)
+pub beyond_of : (s : List ℕ) (h : Here) {r : Read} {m : Node} {z : Here} → Beyond s h r → r ≡ Ok (m, z) → Stands s z × (next_of h < next_of z)
 beyond_of s h u e = subst (Beyond s h) e u
 
 module _ {s : List ℕ} {l : Limits} {c₀ n₀ : ℕ} {h₀ : Here} {t₀ : List ℕ} {c n : ℕ} {h : Here} {t : List ℕ} (g : Round s l c₀ n₀ h₀ t₀ c n h t) where
   pub round_few : c ≤ c₀ + 65536
   round_few = let a = g.next in let b = next_small g.stands in let d = g.stands.short in omega (arith, a, b, d)
 
-  module _ {r : Stmt} {t' : List ℕ} {z : Here} (b : T (one_of (word_of h) statement_firsts)) (u : Statement s h t l r t') (v : BeyondStatement s h r) (k : length t' ≡ length t) where
-    pub round_ended : r ≡ Stmt.Ended z → Round s l c₀ n₀ h₀ t₀ (c + 1) 0 z t'
+  module _ {r : StmtRead} {t' : List ℕ} {z : Here} (b : T (one_of (word_of h) statement_firsts)) (u : Statement s h t l r t') (v : BeyondStatement s h r) (k : length t' ≡ length t) where
+    pub round_ended : r ≡ Ok (Stmt.Ended z) → Round s l c₀ n₀ h₀ t₀ (c + 1) 0 z t'
     round_ended e = let w : Stands s z × (next_of h < next_of z) = subst (BeyondStatement s h) e v in record { goes = goes_ended s l g.goes b u e; stands = w.0; next = let x = g.next in let y = w.1 in omega (arith, x, y); kept = k ∙ g.kept }
 
-    pub round_four : r ≡ Stmt.Four z → Round s l c₀ n₀ h₀ t₀ (c + 1) 1 z t'
+    pub round_four : r ≡ Ok (Stmt.Four z) → Round s l c₀ n₀ h₀ t₀ (c + 1) 1 z t'
     round_four e = let w : Stands s z × (next_of h < next_of z) = subst (BeyondStatement s h) e v in record { goes = goes_four s l g.goes b u e; stands = w.0; next = let x = g.next in let y = w.1 in omega (arith, x, y); kept = k ∙ g.kept }
 
 -- behind it less is left to read
 left_less : (s : List ℕ) (h z : Here) → Stands s z × (next_of h < next_of z) → length s + 1 - next_of z < length s + 1 - next_of h
 left_less s h z w = let x = w.1 in let y = next_small w.0 in omega (arith, x, y)
 
-module _ (s : List ℕ) (h : Here) {r : Stmt} {z : Here} (v : BeyondStatement s h r) where
-  pub ended_less : r ≡ Stmt.Ended z → length s + 1 - next_of z < length s + 1 - next_of h
+module _ (s : List ℕ) (h : Here) {r : StmtRead} {z : Here} (v : BeyondStatement s h r) where
+  pub ended_less : r ≡ Ok (Stmt.Ended z) → length s + 1 - next_of z < length s + 1 - next_of h
   ended_less e = left_less s h z (subst (BeyondStatement s h) e v)
 
-  pub four_less : r ≡ Stmt.Four z → length s + 1 - next_of z < length s + 1 - next_of h
+  pub four_less : r ≡ Ok (Stmt.Four z) → length s + 1 - next_of z < length s + 1 - next_of h
   four_less e = left_less s h z (subst (BeyondStatement s h) e v)
 
 -- the row of a block
@@ -207,13 +208,13 @@ closes_block : {f : Phrase} {s : List ℕ} {since : ℕ} {d : Counts} {ks : List
 closes_block p n g i u = closes_row g refl refl i (closed_by p n u)
 
 module _ (s : List ℕ) (l : Limits) {start : ℕ} {h₀ : Here} {t₀ : List ℕ} {c n : ℕ} {h : Here} {t : List ℕ} (g : Goes s l 0 0 h₀ t₀ c n h t) where
-  module _ (b : T (one_of (word_of h) statement_firsts)) {r : Stmt} {t' : List ℕ} (u : Statement s h t l r t') where
-    pub stmts_fails : {e : Refusal} {r' : Read} → r ≡ Stmt.Refused e → r' ≡ Refused e → Stated s h₀ t₀ l start r' t'
+  module _ (b : T (one_of (word_of h) statement_firsts)) {r : StmtRead} {t' : List ℕ} (u : Statement s h t l r t') where
+    pub stmts_fails : {e : Refusal} {r' : Read} → r ≡ Err e → r' ≡ Err e → Stated s h₀ t₀ l start r' t'
     stmts_fails q o f d ks e k w p i v =
         let y = g f d _ start k p i (states_none v) in
         partly_stops o (stated q (u f d _ start y.end c k y.sign p i (begins_next n y b)))
 
-    pub stmts_last : {z : Here} {q : Row} {r' : Read} {t'' : List ℕ} → r ≡ Stmt.Last z → q ≡ block_row start (end_of z) (c + 1) 1 → Closed s z t' close_brace q h₀.rows r' t'' → Stated s h₀ t₀ l start r' t''
+    pub stmts_last : {z : Here} {q : Row} {r' : Read} {t'' : List ℕ} → r ≡ Ok (Stmt.Last z) → q ≡ block_row start (end_of z) (c + 1) 1 → Closed s z t' close_brace q h₀.rows r' t'' → Stated s h₀ t₀ l start r' t''
     stmts_last {z} o j x f d ks e k w p i v =
         let y = g f d _ start k p i (states_none v) in
         let m : Ended f d (at d (closes close_brace ∷ row kinds.BLOCK ∷ []) ∷ ks) start c k AFTER_EXPR z t' × (word_of z ≢ semicolon) = stated o (u f d _ start y.end c k y.sign p i (begins_next n y b)) in
@@ -224,20 +225,20 @@ module _ (s : List ℕ) (l : Limits) {start : ℕ} {h₀ : Here} {t₀ : List �
 
 -- a statement that is a phrase with its `;`
 module _ (s : List ℕ) (l : Limits) (h : Here) (t : List ℕ) {n i : ℕ} {t' : List ℕ} where
-  pub whole_statement : (r : Read) {v : Stmt} → On STATEMENT (some (a n ∷ a STATEMENTS ∷ [])) (i ∷ []) → one_of n rest_kinds ≡ false → word_of h ≡ i → Answers (the s (counts l) n h t) 1 r t' → v ≡ ended_by r → Statement s h t l v t'
+  pub whole_statement : (r : Read) {v : StmtRead} → On STATEMENT (some (a n ∷ a STATEMENTS ∷ [])) (i ∷ []) → one_of n rest_kinds ≡ false → word_of h ≡ i → Answers (the s (counts l) n h t) 1 r t' → v ≡ ended_by r → Statement s h t l v t'
   unfolding inside
-  whole_statement (Done m z) o y b u j f d ks x e c k w p q g = states (ended_done j refl) (record { end = m.end; sign = w; going = fewer k (omega arith) (last (reads_one (into_on o refl (is_word b) g) y refl (whole_of (of_text f p q u) refl))) })
-  whole_statement (Refused i) o y b u j f d ks x e c k w p q g = states (ended_refused j refl) (refuses_in (into_on o refl (is_word b) g) refl (stopped_of (of_text f p q u) refl))
+  whole_statement (Ok (m, z)) o y b u j f d ks x e c k w p q g = states (ended_done j refl) (record { end = m.end; sign = w; going = fewer k (omega arith) (last (reads_one (into_on o refl (is_word b) g) y refl (whole_of (of_text f p q u) refl))) })
+  whole_statement (Err i) o y b u j f d ks x e c k w p q g = states (ended_refused j refl) (refuses_in (into_on o refl (is_word b) g) refl (stopped_of (of_text f p q u) refl))
 
 -- a reader that has answered stands further on
 pub beyond : {s : List ℕ} {d : Counts} {n j : ℕ} {h : Here} {t : List ℕ} (r : Read) {t' : List ℕ} → Answers (the s d n h t) j r t' → Beyond s h r
-beyond (Done m z) u = let w = further u refl in (w.stands, w.next)
-beyond (Refused e) u = tt
+beyond (Ok (m, z)) u = let w = further u refl in (w.stands, w.next)
+beyond (Err e) u = tt
 
 -- behind two phrases
-pub beyond_both : {s : List ℕ} {d d' : Counts} {n n' j j' : ℕ} {h z : Here} {t t' : List ℕ} {r : Read} {m : Node} (r' : Read) {t'' : List ℕ} → Answers (the s d n h t) j r t' → r ≡ Done m z → Answers (the s d' n' z t') j' r' t'' → Beyond s h r'
-beyond_both (Done m z) u e v = let x = further u e in let y = further v refl in (y.stands, let a = x.next in let b = y.next in omega arith)
-beyond_both (Refused e) u x v = tt
+pub beyond_both : {s : List ℕ} {d d' : Counts} {n n' j j' : ℕ} {h z : Here} {t t' : List ℕ} {r : Read} {m : Node} (r' : Read) {t'' : List ℕ} → Answers (the s d n h t) j r t' → r ≡ Ok (m, z) → Answers (the s d' n' z t') j' r' t'' → Beyond s h r'
+beyond_both (Ok (m, z)) u e v = let x = further u e in let y = further v refl in (y.stands, let a = x.next in let b = y.next in omega arith)
+beyond_both (Err e) u x v = tt
 
 -- A statement that may take a `;` was read up to there.
 abbrev Behind : ℕ → List ℕ → Here → List ℕ → Limits → ℕ → Here → List ℕ → Type 0
@@ -249,37 +250,37 @@ Behind n s h t l end' z t' =
 module _ (s : List ℕ) (l : Limits) (h : Here) (t : List ℕ) {r : Read} {t' : List ℕ} where
   -- one of the four
   module _ (b : T (one_of (word_of h) four_words)) (u : Answers (the s (counts l) FOUR h t) 1 r t') where
-    pub four_refused : {e : Refusal} {v : Stmt} → r ≡ Refused e → v ≡ ended_by r → Statement s h t l v t'
+    pub four_refused : {e : Refusal} {v : StmtRead} → r ≡ Err e → v ≡ ended_by r → Statement s h t l v t'
     unfolding inside
     four_refused i j f d ks x e c k w p q g = states (ended_refused j i) (refuses_in (into_on statement_four_on refl b g) refl (stopped_of (of_text f p q u) i))
 
-    pub behind_four : {m : Node} {z : Here} → r ≡ Done m z → Behind AFTER_FOUR s h t l m.end z t'
+    pub behind_four : {m : Node} {z : Here} → r ≡ Ok (m, z) → Behind AFTER_FOUR s h t l m.end z t'
     unfolding inside
     behind_four i f d ks x e c k w p q g = fewer k (omega arith) (last (reads_one (into_on statement_four_on refl b g) refl refl (whole_of (of_text f p q u) i)))
 
   -- another expr
   module _ (b : T (one_of (word_of h) expr_firsts)) (n : T (one_of (word_of h) four_words) → ⊥) (u : Answers (the s (counts l) (EXPR records) h t) 1 r t') where
-    pub expr_refused : {e : Refusal} {v : Stmt} → r ≡ Refused e → v ≡ ended_by r → Statement s h t l v t'
+    pub expr_refused : {e : Refusal} {v : StmtRead} → r ≡ Err e → v ≡ ended_by r → Statement s h t l v t'
     unfolding inside
     expr_refused i j f d ks x e c k w p q g = states (ended_refused j i) (refuses_in (none_of n (into_on statement_expr_on refl (plain_first (word_of h) b n) g)) refl (stopped_of (of_text f p q u) i))
 
-    pub behind_expr : {m : Node} {z : Here} → r ≡ Done m z → Behind AFTER_EXPR s h t l m.end z t'
+    pub behind_expr : {m : Node} {z : Here} → r ≡ Ok (m, z) → Behind AFTER_EXPR s h t l m.end z t'
     unfolding inside
     behind_expr i f d ks x e c k w p q g = fewer k (omega arith) (last (reads_one (none_of n (into_on statement_expr_on refl (plain_first (word_of h) b n) g)) refl refl (whole_of (of_text f p q u) i)))
 
 -- no statement begins there
-pub no_statement : (s : List ℕ) (l : Limits) (h : Here) (t : List ℕ) {r : Read} {v : Stmt} → word_of h ≢ 'import' → word_of h ≢ 'let' → (T (one_of (word_of h) expr_firsts) → ⊥) → r ≡ unused h → v ≡ ended_by r → Statement s h t l v t
+pub no_statement : (s : List ℕ) (l : Limits) (h : Here) (t : List ℕ) {r : Read} {v : StmtRead} → word_of h ≢ 'import' → word_of h ≢ 'let' → (T (one_of (word_of h) expr_firsts) → ⊥) → r ≡ unused h → v ≡ ended_by r → Statement s h t l v t
 no_statement s l h t v o b i j f d ks x e c k w p q g = states (ended_refused j i) (refuses_off statement_off none_is g)
   where
     none_is : T (one_of (word_of h) statement_firsts) → ⊥
     none_is y = elim (or_cases (eqb (word_of h) 'import') (one_of (word_of h) ('let' ∷ expr_firsts)) y) [ inl j ↦ v (eqb→eq (word_of h) 'import' j) | inr y' ↦ elim (or_cases (eqb (word_of h) 'let') (one_of (word_of h) expr_firsts) y') [ inl j ↦ o (eqb→eq (word_of h) 'let' j) | inr j ↦ b j ] ]
 
 -- how it ends: without `;`; with it
-module _ (s : List ℕ) (l : Limits) (h : Here) (t : List ℕ) {end : ℕ} {z : Here} {t' : List ℕ} {r : Stmt} where
-  pub ends_four : Behind AFTER_FOUR s h t l end z t' → word_of z ≢ semicolon → r ≡ Stmt.Four z → Statement s h t l r t'
+module _ (s : List ℕ) (l : Limits) (h : Here) (t : List ℕ) {end : ℕ} {z : Here} {t' : List ℕ} {r : StmtRead} where
+  pub ends_four : Behind AFTER_FOUR s h t l end z t' → word_of z ≢ semicolon → r ≡ Ok (Stmt.Four z) → Statement s h t l r t'
   ends_four u o i f d ks x e c k w p q g = states i (record { end = end; sign = w; going = u f d ks x e c k w p q g }, o)
 
-  pub ends_last : Behind AFTER_EXPR s h t l end z t' → word_of z ≢ semicolon → r ≡ Stmt.Last z → Statement s h t l r t'
+  pub ends_last : Behind AFTER_EXPR s h t l end z t' → word_of z ≢ semicolon → r ≡ Ok (Stmt.Last z) → Statement s h t l r t'
   ends_last u o i f d ks x e c k w p q g = states i (record { end = end; sign = w; going = u f d ks x e c k w p q g }, o)
 
   pub ends_with : (n : ℕ) → Behind n s h t l end z t' → On n (some (word semicolon ∷ a STATEMENTS ∷ [])) (semicolon ∷ []) → one_of n rest_kinds ≡ true → l.signs ≡ 32 → word_of z ≡ semicolon → {q : Read} → q ≡ took s z → r ≡ ended_by q → Statement s h t l r t'
@@ -291,15 +292,15 @@ module _ (s : List ℕ) (l : Limits) (h : Here) (t : List ℕ) {end : ℕ} {z : 
       states (ended_done j (i ∙ ap (λ (j : List ℕ). took j z) (sym p) ∙ is_past f.text z b)) (record { end = end_of z; sign = or_word w (word_of z); going = x₂ })
 
 -- it stands further on
-pub beyond_ended : (s : List ℕ) (h : Here) (r : Read) {v : Stmt} → Beyond s h r → v ≡ ended_by r → BeyondStatement s h v
-beyond_ended s h (Done m z) u e = subst (BeyondStatement s h) (sym (ended_done e refl)) u
-beyond_ended s h (Refused x) u e = subst (BeyondStatement s h) (sym (ended_refused e refl)) tt
+pub beyond_ended : (s : List ℕ) (h : Here) (r : Read) {v : StmtRead} → Beyond s h r → v ≡ ended_by r → BeyondStatement s h v
+beyond_ended s h (Ok (m, z)) u e = subst (BeyondStatement s h) (sym (ended_done e refl)) u
+beyond_ended s h (Err x) u e = subst (BeyondStatement s h) (sym (ended_refused e refl)) tt
 
-module _ (s : List ℕ) {d : Counts} {h : Here} {t : List ℕ} {n j : ℕ} {q : Read} {t' : List ℕ} {m : Node} {z : Here} (u : Answers (the s d n h t) j q t') (i : q ≡ Done m z) where
+module _ (s : List ℕ) {d : Counts} {h : Here} {t : List ℕ} {n j : ℕ} {q : Read} {t' : List ℕ} {m : Node} {z : Here} (u : Answers (the s d n h t) j q t') (i : q ≡ Ok (m, z)) where
   pub beyond_without : Stands s z × (next_of h < next_of z)
   beyond_without = let w = further u i in (w.stands, w.next)
 
-  pub beyond_with : {r : Read} {v : Stmt} → word_of z ≡ semicolon → r ≡ took s z → v ≡ ended_by r → BeyondStatement s h v
+  pub beyond_with : {r : Read} {v : StmtRead} → word_of z ≡ semicolon → r ≡ took s z → v ≡ ended_by r → BeyondStatement s h v
   beyond_with b e k =
       let w = further u i in
       let p = past_word (semicolon ∷ []) w.stands tt (is_word b) refl in
@@ -322,11 +323,11 @@ module _ (s : List ℕ) (l : Limits) (h : Here) (t : List ℕ) (g : Stands s h) 
   let_going = subst (λ (w : ℕ). Going Let (at (counts (plainly l)) (a NAME ∷ a LET_TYPE ∷ word '=' ∷ a (EXPR records) ∷ word semicolon ∷ row kinds.LET ∷ []) ∷ []) h₁ t (many (start_of h) (end_of h) 0 (some w)) 0 4) b (subst (λ (d : Counts). Going Let (at d (a NAME ∷ a LET_TYPE ∷ word '=' ∷ a (EXPR records) ∷ word semicolon ∷ row kinds.LET ∷ []) ∷ []) h₁ t (many (start_of h) (end_of h) 0 (some (word_of h))) 0 4) (counts_plain l) (takes (begins_any let_any g) tt (is_word b) tt e))
 
   module _ {r₁ : Read} {t₁ : List ℕ} (u₁ : Anyhow s NAME h₁ t 3 r₁ t₁) where
-    pub let_nameless : {x : Refusal} → r₁ ≡ Refused x → Answers Let 1 r₁ t₁
+    pub let_nameless : {x : Refusal} → r₁ ≡ Err x → Answers Let 1 r₁ t₁
     unfolding inside
     let_nameless i = relays let_going refl (u₁ (counts (plainly l))) i
 
-    module _ {m₁ : Node} {h₂ : Here} (i₁ : r₁ ≡ Done m₁ h₂) where
+    module _ {m₁ : Node} {h₂ : Here} (i₁ : r₁ ≡ Ok (m₁, h₂)) where
       let_named : Going Let (at (counts (plainly l)) (a LET_TYPE ∷ word '=' ∷ a (EXPR records) ∷ word semicolon ∷ row kinds.LET ∷ []) ∷ []) h₂ t₁ (many (start_of h) m₁.end 1 (some 'let')) 0 7
       unfolding inside
       let_named = reads_one let_going refl refl (whole_of (u₁ (counts (plainly l))) i₁)
@@ -338,18 +339,18 @@ module _ (s : List ℕ) (l : Limits) (h : Here) (t : List ℕ) (g : Stands s h) 
         typed : Partly Let r₂ t₂ (λ m z. Perhaps Let (at (counts (plainly l)) (word '=' ∷ a (EXPR records) ∷ word semicolon ∷ row kinds.LET ∷ []) ∷ []) (start_of h) 1 7 m.children z t₂)
         typed = u₂ Let (counts (plainly l)) _ [] LET_TYPE (start_of h) m₁.end 1 7 (some 'let') refl (ap counts (sym q)) (inr (refl, refl)) let_named
 
-        pub let_untyped : {x : Refusal} → r₂ ≡ Refused x → Answers Let 1 r₂ t₂
+        pub let_untyped : {x : Refusal} → r₂ ≡ Err x → Answers Let 1 r₂ t₂
         let_untyped i = stops_answer typed i
 
-        module _ {m₂ : Node} {h₃ : Here} (i₂ : r₂ ≡ Done m₂ h₃) where
+        module _ {m₂ : Node} {h₃ : Here} (i₂ : r₂ ≡ Ok (m₂, h₃)) where
           pub let_types : m₂.children ≤ 1
           let_types = (partly_of typed i₂).one
 
           module _ {r₃ : Read} (u₃ : r₃ ≡ expected s h₃ '=') where
-            pub let_signless : {x : Refusal} → r₃ ≡ Refused x → Answers Let 1 r₃ t₂
+            pub let_signless : {x : Refusal} → r₃ ≡ Err x → Answers Let 1 r₃ t₂
             let_signless i = stopped i (misses '=' (partly_of typed i₂).going tt u₃ i)
 
-            module _ {m₃ : Node} {h₄ : Here} (i₃ : r₃ ≡ Done m₃ h₄) where
+            module _ {m₃ : Node} {h₄ : Here} (i₃ : r₃ ≡ Ok (m₃, h₄)) where
               let_signed : Going Let (at (after plain (counts (plainly l))) (a (EXPR records) ∷ word semicolon ∷ row kinds.LET ∷ []) ∷ []) h₄ t₂ (many (start_of h) m₃.end (1 + m₂.children) (or_word (partly_of typed i₂).sign '=')) m₂.children 11
               let_signed = expects '=' (partly_of typed i₂).going tt u₃ i₃
 
@@ -361,20 +362,20 @@ module _ (s : List ℕ) (l : Limits) (h : Here) (t : List ℕ) (g : Stands s h) 
                 valued : Answers (the s (after plain (counts (plainly l))) (EXPR records) h₄ t₂) 1 r₄ t₄
                 valued = subst (λ (d : Counts). Answers (the s d (EXPR records) h₄ t₂) 1 r₄ t₄) (ap counts q ∙ sym (counts_plain (plainly l))) u₄
 
-                pub let_valueless : {x : Refusal} → r₄ ≡ Refused x → Answers Let 1 r₄ t₄
+                pub let_valueless : {x : Refusal} → r₄ ≡ Err x → Answers Let 1 r₄ t₄
                 unfolding inside
                 let_valueless i = relays let_signed refl valued i
 
-                module _ {m₄ : Node} {h₅ : Here} (i₄ : r₄ ≡ Done m₄ h₅) where
+                module _ {m₄ : Node} {h₅ : Here} (i₄ : r₄ ≡ Ok (m₄, h₅)) where
                   let_valued : Going Let (at (after plain (counts (plainly l))) (word semicolon ∷ row kinds.LET ∷ []) ∷ []) h₅ t₄ (many (start_of h) m₄.end (1 + m₂.children + 1) (or_word (partly_of typed i₂).sign '=')) m₂.children 12
                   unfolding inside
                   let_valued = reads_one let_signed refl refl (whole_of valued i₄)
 
                   module _ {r₅ : Read} (u₅ : r₅ ≡ expected s h₅ semicolon) where
-                    pub let_unended : {x : Refusal} → r₅ ≡ Refused x → Answers Let 1 r₅ t₄
+                    pub let_unended : {x : Refusal} → r₅ ≡ Err x → Answers Let 1 r₅ t₄
                     let_unended i = stopped i (misses semicolon let_valued tt u₅ i)
 
-                    pub let_read : {m₅ : Node} {h₆ : Here} {y : Row} {r : Read} {t' : List ℕ} → r₅ ≡ Done m₅ h₆ → y ≡ let_row (start_of h) m₅.end m₂.children → r ≡ Done (node_of y) (later h₆) → t' ≡ put_over t₄ h₆ y h.rows → Answers Let 1 r t'
+                    pub let_read : {m₅ : Node} {h₆ : Here} {y : Row} {r : Read} {t' : List ℕ} → r₅ ≡ Ok (m₅, h₆) → y ≡ let_row (start_of h) m₅.end m₂.children → r ≡ Ok (node_of y, later h₆) → t' ≡ put_over t₄ h₆ y h.rows → Answers Let 1 r t'
                     let_read {m₅} i j o p =
                         let n : 1 + m₂.children + 1 ≡ m₂.children + 2 = omega arith in
                         done o (ends (fewer 1 (omega arith) (out (writes {k = 15} (expects semicolon let_valued tt u₅ i) refl refl (j ∙ ap (λ (c : ℕ). record { kind = kinds.LET; start = start_of h; end = m₅.end; children = c; value = m₂.children; detail = 0 }) (sym n)) refl p))) refl refl refl)

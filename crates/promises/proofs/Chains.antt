@@ -1,4 +1,5 @@
 -- A chain of `if` and `else if`, read by a loop.
+use Rattle.std.specs.Prelude.{Ok, Err}
 use mathlib.Core.Path.{◌≡◌, refl, sym, ap, subst, ◌∙◌}
 use mathlib.Core.List.{List, [], ◌∷◌}
 use mathlib.Core.Bool.{Bool, true, false, cond}
@@ -22,8 +23,7 @@ use Rattle.parser.proofs.Steps.{under_done, some_left, used_more}
 use Rattle.parser.specs.declared.Here.{Here}
 use Rattle.parser.specs.declared.Limits.{Limits}
 use Rattle.parser.specs.declared.Node.{Node}
-use Rattle.parser.specs.declared.Read.{Read}
-use Rattle.parser.specs.declared.Read.TheVariants.{Done, Refused}
+use Rattle.parser.specs.Results.{Read}
 use Rattle.parser.specs.Places.{word_of, end_of, next_of, passed, later, under, node_of, put_over, plain_row}
 use Rattle.parser.specs.Counted.{counts, headed, chained, used}
 use Rattle.parser.specs.Going.{Stands, many, Phrase, Going, Answers}
@@ -54,14 +54,14 @@ linked_in s h l c e k = k ∙ ap (under s h) (e ∙ ap (λ (x : Bool). cond x 0 
 
 -- past the `if` behind an `else`, or not
 module _ (l : Limits) {s : List ℕ} {h : Here} {r : Read} (g : Stands s h) (i : word_of h ≡ 69) (p : r ≡ linked s h l) where
-  pub linked_fails : (t : List ℕ) {e : Refusal} → r ≡ Refused e → Answers (the s (counts l) ELSE_IF h t) 1 r t
+  pub linked_fails : (t : List ℕ) {e : Refusal} → r ≡ Err e → Answers (the s (counts l) ELSE_IF h t) 1 r t
   linked_fails t {e} q = else_if_deep l g i p (go (eqb l.chain 0) (eqb→eq l.chain 0)) q
     where
       go : (b : Bool) → (T b → l.chain ≡ 0) → cond b 0 l.heads ≡ 0 → 0 < l.heads → 0 < l.chain → ⊥
       go true o m x y = let c = o tt in omega (arith, c, y)
       go false o m x y = omega (arith, m, x)
 
-  pub linked_on : {m : Node} {z : Here} → r ≡ Done m z → (0 < l.chain) × (r ≡ under s h l.heads)
+  pub linked_on : {m : Node} {z : Here} → r ≡ Ok (m, z) → (0 < l.chain) × (r ≡ under s h l.heads)
   linked_on {m} {z} q = go (eqb l.chain 0) refl p
     where
       go : (b : Bool) → eqb l.chain 0 ≡ b → r ≡ under s h (cond b 0 l.heads) → (0 < l.chain) × (r ≡ under s h l.heads)
@@ -89,12 +89,12 @@ module _ {s : List ℕ} {l₀ : Limits} {h₀ : Here} {t₀ : List ℕ} {x₀ : 
     tested : Partly k.inner r₁ t₁ (λ m h'. Going k.inner (at k.head.at_counts (behind ELSE ∷ row kinds.IF ∷ []) ∷ []) h' t₁ (many x m.end 2 (some k.head.sign)) 0 6)
     tested = u₁ k.inner k.head.at_counts (behind ELSE ∷ row kinds.IF ∷ []) x k.head.end 0 k.head.sign 4 k.text k.head.headed_so k.head.body_so k.head.going
 
-  pub links_fails : {y : Refusal} → r₁ ≡ Refused y → Headed after_if s h₀ t₀ l₀ x₀ r₁ t₁
+  pub links_fails : {y : Refusal} → r₁ ≡ Err y → Headed after_if s h₀ t₀ l₀ x₀ r₁ t₁
   links_fails e₁ f d e v q z b g = let k = w.links f d e v q z b g in over_refused k.over (stops_answer (tested k) e₁) e₁
 
-  module _ {m₁ : Node} {h₁ : Here} (e₁ : r₁ ≡ Done m₁ h₁) where
+  module _ {m₁ : Node} {h₁ : Here} (e₁ : r₁ ≡ Ok (m₁, h₁)) where
     -- the last `if`, without `else`
-    pub links_end : {v : Row} {r₂ r₃ : Read} {t₂ t₃ : List ℕ} → word_of h₁ ≢ 63 → v ≡ plain_row kinds.IF x m₁.end 2 → r₂ ≡ Done (node_of v) (later h₁) → t₂ ≡ put_over t₁ h₁ v y₀ → r₃ ≡ over_read starts details 28 3 n r₂ → t₃ ≡ over_table starts sinces details 28 3 n r₂ t₂ → Headed after_if s h₀ t₀ l₀ x₀ r₃ t₃
+    pub links_end : {v : Row} {r₂ r₃ : Read} {t₂ t₃ : List ℕ} → word_of h₁ ≢ 63 → v ≡ plain_row kinds.IF x m₁.end 2 → r₂ ≡ Ok (node_of v, later h₁) → t₂ ≡ put_over t₁ h₁ v y₀ → r₃ ≡ over_read starts details 28 3 n r₂ → t₃ ≡ over_table starts sinces details 28 3 n r₂ t₂ → Headed after_if s h₀ t₀ l₀ x₀ r₃ t₃
     links_end i o p y p' y' f d e v q z b g = let k = w.links f d e v q z b g in over_ends k.over (else_none (partly_of (tested k) e₁) (omega arith) i o p (put_since _ h₁ _ k.began y)) p' y'
 
     module _ {h₂ : Here} (i : word_of h₁ ≡ 63) (p : h₂ ≡ passed s h₁) where
@@ -112,22 +112,22 @@ module _ {s : List ℕ} {l₀ : Limits} {h₀ : Here} {t₀ : List ℕ} {x₀ : 
         in_chain k = into_on elses_if_on refl (is_word j) (behind_else k)
 
         module _ {f : Phrase} (k : Linked s f l h t x y₀ starts sinces details n) where
-          chain_fails : (y : Refusal) (t₂ : List ℕ) → Answers (the s (counts l) ELSE_IF h₂ t₁) 1 (Refused y) t₂ → Answers k.inner 1 (Refused y) t₂
+          chain_fails : (y : Refusal) (t₂ : List ℕ) → Answers (the s (counts l) ELSE_IF h₂ t₁) 1 (Err y) t₂ → Answers k.inner 1 (Err y) t₂
           unfolding inside
           chain_fails y t₂ u = stopped refl (refuses_it k.text refl u (in_chain k) refl)
 
-          chain_valued : (m : Node) (z : Here) (t₂ t₃ : List ℕ) (v : Row) → Answers (the s (counts l) ELSE_IF h₂ t₁) 1 (Done m z) t₂ → v ≡ plain_row kinds.IF x m.end 3 → t₃ ≡ put_over t₂ z v y₀ → Answers k.inner 1 (Done (node_of v) (later z)) t₃
+          chain_valued : (m : Node) (z : Here) (t₂ t₃ : List ℕ) (v : Row) → Answers (the s (counts l) ELSE_IF h₂ t₁) 1 (Ok (m, z)) t₂ → v ≡ plain_row kinds.IF x m.end 3 → t₃ ≡ put_over t₂ z v y₀ → Answers k.inner 1 (Ok (node_of v, later z)) t₃
           unfolding inside
           chain_valued m z t₂ t₃ v u o y = finished (out (out (reads_it k.text refl u (in_chain k) refl refl))) (omega arith) refl refl o refl (put_since _ z _ k.began y)
 
         module _ {r₂ : Read} (p₂ : r₂ ≡ linked s h₂ l) where
-          pub links_long : {y : Refusal} → r₂ ≡ Refused y → Headed after_if s h₀ t₀ l₀ x₀ r₂ t₁
+          pub links_long : {y : Refusal} → r₂ ≡ Err y → Headed after_if s h₀ t₀ l₀ x₀ r₂ t₁
           links_long {y} e₂ f d e v q z b g =
               let k = w.links f d e v q z b g in
               let u = linked_fails l g₂ j p₂ t₁ e₂ in
               over_refused k.over (subst (λ (r : Read). Answers k.inner 1 r t₁) (sym e₂) (chain_fails k y t₁ (subst (λ (r : Read). Answers (the s (counts l) ELSE_IF h₂ t₁) 1 r t₁) e₂ u))) e₂
 
-          module _ {m₂ : Node} {h₃ : Here} (e₂ : r₂ ≡ Done m₂ h₃) where
+          module _ {m₂ : Node} {h₃ : Here} (e₂ : r₂ ≡ Ok (m₂, h₃)) where
             pub links_behind : Stands s h₃ × (next_of h₂ < next_of h₃) × (n < 32)
             links_behind = let o = linked_on l g₂ j p₂ e₂ in let y = under_past 69 l.heads g₂ tt j o.1 e₂ in let k = w.few in (y.0, y.1, omega (arith, k, o.0))
 

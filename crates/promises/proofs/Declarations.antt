@@ -1,4 +1,5 @@
 -- Declarations: `const`, `fn`, `filter` or `filtermap`, `test`, and which of them stands where.
+use Rattle.std.specs.Prelude.{Ok, Err}
 use mathlib.Core.Path.{◌≡◌, refl, sym, ap, subst, ◌∙◌}
 use mathlib.Core.List.{List, [], ◌∷◌}
 use mathlib.Core.Bool.{Bool, true, false}
@@ -20,8 +21,7 @@ use Rattle.grammar.proofs.Bools.{or_cases}
 use Rattle.parser.specs.declared.Here.{Here}
 use Rattle.parser.specs.declared.Limits.{Limits}
 use Rattle.parser.specs.declared.Node.{Node}
-use Rattle.parser.specs.declared.Read.{Read}
-use Rattle.parser.specs.declared.Read.TheVariants.{Done, Refused}
+use Rattle.parser.specs.Results.{Read}
 use Rattle.parser.specs.Places.{word_of, start_of, end_of, passed, later, unused, node_of, put_over, plain_row, expected}
 use Rattle.parser.specs.Counted.{counts, plain as plainly}
 use Rattle.parser.specs.Going.{Stands, many, Phrase, Going, Answers}
@@ -79,92 +79,92 @@ module _ (s : List ℕ) (l : Limits) (i : Here) (t₀ : List ℕ) (g : Stands s 
     unfolding after kept counts
     declared_word = takes (begins_on c g m) o m tt b
 
-    pub unnamed : {e : Refusal} → r ≡ Refused e → Answers Declared 1 r t
+    pub unnamed : {e : Refusal} → r ≡ Err e → Answers Declared 1 r t
     unfolding inside
     unnamed e = relays declared_word refl (u (counts (plainly l))) e
 
-    pub named : {n : Node} {h : Here} → r ≡ Done n h → Going Declared (at (counts (plainly l)) ss ∷ []) h t (many (start_of i) n.end 1 (some (word_of i))) 0 7
+    pub named : {n : Node} {h : Here} → r ≡ Ok (n, h) → Going Declared (at (counts (plainly l)) ss ∷ []) h t (many (start_of i) n.end 1 (some (word_of i))) 0 7
     unfolding inside
     named e = reads_one declared_word refl refl (whole_of (u (counts (plainly l))) e)
 
   -- `const name : type = expr ;`
   module _ (m : word_of i ≡ 61) {j : Here} (b : j ≡ passed s i) {r₁ : Read} {t₁ : List ℕ} (u₁ : Anyhow s NAME j t₀ 3 r₁ t₁) where
-    pub const_unnamed : {e : Refusal} → r₁ ≡ Refused e → Answers Declared 1 r₁ t₁
+    pub const_unnamed : {e : Refusal} → r₁ ≡ Err e → Answers Declared 1 r₁ t₁
     const_unnamed e = unnamed declaration_const_on tt (is_word m) b u₁ e
 
-    module _ {n₁ : Node} {h₁ : Here} (e₁ : r₁ ≡ Done n₁ h₁) {r₂ : Read} (q₂ : r₂ ≡ expected s h₁ 46) where
+    module _ {n₁ : Node} {h₁ : Here} (e₁ : r₁ ≡ Ok (n₁, h₁)) {r₂ : Read} (q₂ : r₂ ≡ expected s h₁ 46) where
       const_named : Going Declared (at (counts (plainly l)) (word ':' ∷ a TYPE ∷ word '=' ∷ a (EXPR records) ∷ word semicolon ∷ row kinds.CONST ∷ []) ∷ []) h₁ t₁ (many (start_of i) n₁.end 1 (some (word_of i))) 0 7
       const_named = named declaration_const_on tt (is_word m) b u₁ e₁
 
-      pub const_no_colon : {e : Refusal} → r₂ ≡ Refused e → Answers Declared 1 r₂ t₁
+      pub const_no_colon : {e : Refusal} → r₂ ≡ Err e → Answers Declared 1 r₂ t₁
       const_no_colon e = stopped e (misses 46 const_named tt q₂ e)
 
-      module _ {n₂ : Node} {h₂ : Here} (e₂ : r₂ ≡ Done n₂ h₂) where
+      module _ {n₂ : Node} {h₂ : Here} (e₂ : r₂ ≡ Ok (n₂, h₂)) where
         pub const_colon : Going Declared (at (counts (plainly l)) (a TYPE ∷ word '=' ∷ a (EXPR records) ∷ word semicolon ∷ row kinds.CONST ∷ []) ∷ []) h₂ t₁ (many (start_of i) n₂.end 1 (some (word_of i))) 0 11
         unfolding after counts
         const_colon = expects 46 const_named tt q₂ e₂
 
         module _ {r₃ : Read} {t₃ : List ℕ} (u₃ : Answers (the s (counts (plainly l)) TYPE h₂ t₁) 1 r₃ t₃) where
-          pub const_untyped : {e : Refusal} → r₃ ≡ Refused e → Answers Declared 1 r₃ t₃
+          pub const_untyped : {e : Refusal} → r₃ ≡ Err e → Answers Declared 1 r₃ t₃
           unfolding inside
           const_untyped e = relays const_colon refl u₃ e
 
-          module _ {n₃ : Node} {h₃ : Here} (e₃ : r₃ ≡ Done n₃ h₃) {r₄ : Read} (q₄ : r₄ ≡ expected s h₃ 50) where
+          module _ {n₃ : Node} {h₃ : Here} (e₃ : r₃ ≡ Ok (n₃, h₃)) {r₄ : Read} (q₄ : r₄ ≡ expected s h₃ 50) where
             const_typed : Going Declared (at (counts (plainly l)) (word '=' ∷ a (EXPR records) ∷ word semicolon ∷ row kinds.CONST ∷ []) ∷ []) h₃ t₃ (many (start_of i) n₃.end 2 (some (word_of i))) 0 12
             unfolding inside
             const_typed = reads_one const_colon refl refl (whole_of u₃ e₃)
 
-            pub const_no_equals : {e : Refusal} → r₄ ≡ Refused e → Answers Declared 1 r₄ t₃
+            pub const_no_equals : {e : Refusal} → r₄ ≡ Err e → Answers Declared 1 r₄ t₃
             const_no_equals e = stopped e (misses 50 const_typed tt q₄ e)
 
-            module _ {n₄ : Node} {h₄ : Here} (e₄ : r₄ ≡ Done n₄ h₄) where
+            module _ {n₄ : Node} {h₄ : Here} (e₄ : r₄ ≡ Ok (n₄, h₄)) where
               pub const_equals : Going Declared (at (counts (plainly l)) (a (EXPR records) ∷ word semicolon ∷ row kinds.CONST ∷ []) ∷ []) h₄ t₃ (many (start_of i) n₄.end 2 (some (word_of i))) 0 16
               unfolding after counts
               const_equals = expects 50 const_typed tt q₄ e₄
 
               module _ {r₅ : Read} {t₅ : List ℕ} (u₅ : Answers (the s (counts (plainly l)) (EXPR records) h₄ t₃) 1 r₅ t₅) where
-                pub const_no_value : {e : Refusal} → r₅ ≡ Refused e → Answers Declared 1 r₅ t₅
+                pub const_no_value : {e : Refusal} → r₅ ≡ Err e → Answers Declared 1 r₅ t₅
                 unfolding inside
                 const_no_value e = relays const_equals refl u₅ e
 
-                module _ {n₅ : Node} {h₅ : Here} (e₅ : r₅ ≡ Done n₅ h₅) {r₆ : Read} (q₆ : r₆ ≡ expected s h₅ 47) where
+                module _ {n₅ : Node} {h₅ : Here} (e₅ : r₅ ≡ Ok (n₅, h₅)) {r₆ : Read} (q₆ : r₆ ≡ expected s h₅ 47) where
                   const_value : Going Declared (at (counts (plainly l)) (word semicolon ∷ row kinds.CONST ∷ []) ∷ []) h₅ t₅ (many (start_of i) n₅.end 3 (some (word_of i))) 0 17
                   unfolding inside
                   const_value = reads_one const_equals refl refl (whole_of u₅ e₅)
 
-                  pub const_unended : {e : Refusal} → r₆ ≡ Refused e → Answers Declared 1 r₆ t₅
+                  pub const_unended : {e : Refusal} → r₆ ≡ Err e → Answers Declared 1 r₆ t₅
                   const_unended e = stopped e (misses 47 const_value tt q₆ e)
 
-                  pub const_read : {n₆ : Node} {h₆ : Here} {x : Row} {r : Read} {t : List ℕ} → r₆ ≡ Done n₆ h₆ → x ≡ plain_row kinds.CONST (start_of i) n₆.end 3 → (r ≡ Done (node_of x) (later h₆)) × (t ≡ put_over t₅ h₆ x i.rows) → Answers Declared 1 r t
+                  pub const_read : {n₆ : Node} {h₆ : Here} {x : Row} {r : Read} {t : List ℕ} → r₆ ≡ Ok (n₆, h₆) → x ≡ plain_row kinds.CONST (start_of i) n₆.end 3 → (r ≡ Ok (node_of x, later h₆)) × (t ≡ put_over t₅ h₆ x i.rows) → Answers Declared 1 r t
                   unfolding after
                   const_read e₆ e p = done p.0 (ends (out (writes (fewer 2 (omega arith) (expects 47 const_value tt q₆ e₆)) refl refl e refl p.1)) refl refl refl)
 
   -- the list behind its name
-  module _ {w : List ℕ} {ss : List Symbol} (c : On DECLARATION (some (token plain w ∷ a NAME ∷ a PARAMS ∷ ss)) w) (o : T (solid w)) (m : T (one_of (word_of i) w)) {j : Here} (b : j ≡ passed s i) {r₁ : Read} {t₁ : List ℕ} (u₁ : Anyhow s NAME j t₀ 3 r₁ t₁) {n₁ : Node} {h₁ : Here} (e₁ : r₁ ≡ Done n₁ h₁) {r₂ : Read} {t₂ : List ℕ} (u₂ : Listed s h₁ t₁ (plainly l) 42 TYPED_NAMES 43 r₂ t₂) where
+  module _ {w : List ℕ} {ss : List Symbol} (c : On DECLARATION (some (token plain w ∷ a NAME ∷ a PARAMS ∷ ss)) w) (o : T (solid w)) (m : T (one_of (word_of i) w)) {j : Here} (b : j ≡ passed s i) {r₁ : Read} {t₁ : List ℕ} (u₁ : Anyhow s NAME j t₀ 3 r₁ t₁) {n₁ : Node} {h₁ : Here} (e₁ : r₁ ≡ Ok (n₁, h₁)) {r₂ : Read} {t₂ : List ℕ} (u₂ : Listed s h₁ t₁ (plainly l) 42 TYPED_NAMES 43 r₂ t₂) where
     listed_partly : Partly Declared r₂ t₂ (λ n h. Going Declared (at (counts (plainly l)) [] ∷ at (counts (plainly l)) ss ∷ []) h t₂ (many (start_of i) n.end (1 + n.children) (some (word_of i))) 0 11)
     unfolding inside after counts
     listed_partly = u₂ Declared (counts (plainly l)) [] (at (counts (plainly l)) ss ∷ []) _ 0 7 refl (alike_counts (plainly l)) (into_off params_any refl (λ z. z) (named c o m b u₁ e₁))
 
-    pub unlisted : {e : Refusal} → r₂ ≡ Refused e → Answers Declared 1 r₂ t₂
+    pub unlisted : {e : Refusal} → r₂ ≡ Err e → Answers Declared 1 r₂ t₂
     unlisted e = stops_answer listed_partly e
 
-    pub with_params : {n₂ : Node} {h₂ : Here} → r₂ ≡ Done n₂ h₂ → Going Declared (at (counts (plainly l)) ss ∷ []) h₂ t₂ (many (start_of i) n₂.end (1 + n₂.children) (some (word_of i))) 0 8
+    pub with_params : {n₂ : Node} {h₂ : Here} → r₂ ≡ Ok (n₂, h₂) → Going Declared (at (counts (plainly l)) ss ∷ []) h₂ t₂ (many (start_of i) n₂.end (1 + n₂.children) (some (word_of i))) 0 8
     with_params e = fewer 8 (omega arith) (out (partly_of listed_partly e))
 
   -- `fn name (params) [-> type] block`
   module _ (m : word_of i ≡ 68) {j : Here} (b : j ≡ passed s i) {r₁ : Read} {t₁ : List ℕ} (u₁ : Anyhow s NAME j t₀ 3 r₁ t₁) where
-    pub fn_unnamed : {e : Refusal} → r₁ ≡ Refused e → Answers Declared 1 r₁ t₁
+    pub fn_unnamed : {e : Refusal} → r₁ ≡ Err e → Answers Declared 1 r₁ t₁
     fn_unnamed e = unnamed declaration_fn_on tt (is_word m) b u₁ e
 
-    module _ {n₁ : Node} {h₁ : Here} (e₁ : r₁ ≡ Done n₁ h₁) where
+    module _ {n₁ : Node} {h₁ : Here} (e₁ : r₁ ≡ Ok (n₁, h₁)) where
       pub fn_named : Stands s h₁
       fn_named = (named declaration_fn_on tt (is_word m) b u₁ e₁).stands
 
       module _ {r₂ : Read} {t₂ : List ℕ} (u₂ : Listed s h₁ t₁ (plainly l) 42 TYPED_NAMES 43 r₂ t₂) where
-        pub fn_unlisted : {e : Refusal} → r₂ ≡ Refused e → Answers Declared 1 r₂ t₂
+        pub fn_unlisted : {e : Refusal} → r₂ ≡ Err e → Answers Declared 1 r₂ t₂
         fn_unlisted e = unlisted declaration_fn_on tt (is_word m) b u₁ e₁ u₂ e
 
-        module _ {n₂ : Node} {h₂ : Here} (e₂ : r₂ ≡ Done n₂ h₂) where
+        module _ {n₂ : Node} {h₂ : Here} (e₂ : r₂ ≡ Ok (n₂, h₂)) where
           pub fn_listed : Going Declared (at (counts (plainly l)) (a RESULT ∷ a BLOCK ∷ row kinds.FN ∷ []) ∷ []) h₂ t₂ (many (start_of i) n₂.end (1 + n₂.children) (some (word_of i))) 0 8
           fn_listed = with_params declaration_fn_on tt (is_word m) b u₁ e₁ u₂ e₂
 
@@ -172,63 +172,63 @@ module _ (s : List ℕ) (l : Limits) (i : Here) (t₀ : List ℕ) (g : Stands s 
             fn_partly : Partly Declared r₃ t₃ (λ n h. Perhaps Declared (at (counts (plainly l)) (a BLOCK ∷ row kinds.FN ∷ []) ∷ []) (start_of i) (1 + n₂.children) 8 n.children h t₃)
             fn_partly = u₃ Declared (counts (plainly l)) (a BLOCK ∷ row kinds.FN ∷ []) [] RESULT (start_of i) n₂.end (1 + n₂.children) 8 (some (word_of i)) refl refl (inl (refl, refl)) fn_listed
 
-            pub fn_untyped : {e : Refusal} → r₃ ≡ Refused e → Answers Declared 1 r₃ t₃
+            pub fn_untyped : {e : Refusal} → r₃ ≡ Err e → Answers Declared 1 r₃ t₃
             fn_untyped e = stops_answer fn_partly e
 
-            module _ {n₃ : Node} {h₃ : Here} (e₃ : r₃ ≡ Done n₃ h₃) where
+            module _ {n₃ : Node} {h₃ : Here} (e₃ : r₃ ≡ Ok (n₃, h₃)) where
               pub fn_typed : Perhaps Declared (at (counts (plainly l)) (a BLOCK ∷ row kinds.FN ∷ []) ∷ []) (start_of i) (1 + n₂.children) 8 n₃.children h₃ t₃
               fn_typed = partly_of fn_partly e₃
 
               module _ {r₄ : Read} {t₄ : List ℕ} (u₄ : Answers (the s (counts (plainly l)) BLOCK h₃ t₃) 1 r₄ t₄) where
-                pub fn_no_block : {e : Refusal} → r₄ ≡ Refused e → Answers Declared 1 r₄ t₄
+                pub fn_no_block : {e : Refusal} → r₄ ≡ Err e → Answers Declared 1 r₄ t₄
                 unfolding inside
                 fn_no_block e = relays fn_typed.going refl u₄ e
 
-                pub fn_read : {n₄ : Node} {h₄ : Here} {x : Row} {r : Read} {t : List ℕ} → r₄ ≡ Done n₄ h₄ → x ≡ fn_row (start_of i) n₄.end n₂.children n₃.children → (r ≡ Done (node_of x) (later h₄)) × (t ≡ put_over t₄ h₄ x i.rows) → Answers Declared 1 r t
+                pub fn_read : {n₄ : Node} {h₄ : Here} {x : Row} {r : Read} {t : List ℕ} → r₄ ≡ Ok (n₄, h₄) → x ≡ fn_row (start_of i) n₄.end n₂.children n₃.children → (r ≡ Ok (node_of x, later h₄)) × (t ≡ put_over t₄ h₄ x i.rows) → Answers Declared 1 r t
                 unfolding inside
                 fn_read {n₄} e₄ e p = done p.0 (ends (out (writes (fewer 2 (omega arith) (reads_one fn_typed.going refl refl (whole_of u₄ e₄))) refl refl (e ∙ ap (λ (k : ℕ). record { kind = kinds.FN; start = start_of i; end = n₄.end; children = k; value = n₃.children; detail = 0 }) (omega arith)) refl p.1)) refl refl refl)
 
   -- `filter` or `filtermap name (params) block`
   module _ (m : T (one_of (word_of i) filter_words)) {j : Here} (b : j ≡ passed s i) {r₁ : Read} {t₁ : List ℕ} (u₁ : Anyhow s NAME j t₀ 3 r₁ t₁) where
-    pub filter_unnamed : {e : Refusal} → r₁ ≡ Refused e → Answers Declared 1 r₁ t₁
+    pub filter_unnamed : {e : Refusal} → r₁ ≡ Err e → Answers Declared 1 r₁ t₁
     filter_unnamed e = unnamed declaration_filter_on tt m b u₁ e
 
-    module _ {n₁ : Node} {h₁ : Here} (e₁ : r₁ ≡ Done n₁ h₁) where
+    module _ {n₁ : Node} {h₁ : Here} (e₁ : r₁ ≡ Ok (n₁, h₁)) where
       pub filter_named : Stands s h₁
       filter_named = (named declaration_filter_on tt m b u₁ e₁).stands
 
       module _ {r₂ : Read} {t₂ : List ℕ} (u₂ : Listed s h₁ t₁ (plainly l) 42 TYPED_NAMES 43 r₂ t₂) where
-        pub filter_unlisted : {e : Refusal} → r₂ ≡ Refused e → Answers Declared 1 r₂ t₂
+        pub filter_unlisted : {e : Refusal} → r₂ ≡ Err e → Answers Declared 1 r₂ t₂
         filter_unlisted e = unlisted declaration_filter_on tt m b u₁ e₁ u₂ e
 
-        module _ {n₂ : Node} {h₂ : Here} (e₂ : r₂ ≡ Done n₂ h₂) where
+        module _ {n₂ : Node} {h₂ : Here} (e₂ : r₂ ≡ Ok (n₂, h₂)) where
           pub filter_listed : Going Declared (at (counts (plainly l)) (a BLOCK ∷ row kinds.FILTER ∷ []) ∷ []) h₂ t₂ (many (start_of i) n₂.end (1 + n₂.children) (some (word_of i))) 0 8
           filter_listed = with_params declaration_filter_on tt m b u₁ e₁ u₂ e₂
 
           module _ {r₃ : Read} {t₃ : List ℕ} (u₃ : Answers (the s (counts (plainly l)) BLOCK h₂ t₂) 1 r₃ t₃) where
-            pub filter_no_block : {e : Refusal} → r₃ ≡ Refused e → Answers Declared 1 r₃ t₃
+            pub filter_no_block : {e : Refusal} → r₃ ≡ Err e → Answers Declared 1 r₃ t₃
             unfolding inside
             filter_no_block e = relays filter_listed refl u₃ e
 
-            pub filter_read : {n₃ : Node} {h₃ : Here} {x : ℕ} {r : Read} {t : List ℕ} → r₃ ≡ Done n₃ h₃ → x ≡ detail_for kinds.FILTER (word_of i) → (r ≡ Done (node_of (filter_row (start_of i) n₃.end n₂.children x)) (later h₃)) × (t ≡ put_over t₃ h₃ (filter_row (start_of i) n₃.end n₂.children x) i.rows) → Answers Declared 1 r t
+            pub filter_read : {n₃ : Node} {h₃ : Here} {x : ℕ} {r : Read} {t : List ℕ} → r₃ ≡ Ok (n₃, h₃) → x ≡ detail_for kinds.FILTER (word_of i) → (r ≡ Ok (node_of (filter_row (start_of i) n₃.end n₂.children x), later h₃)) × (t ≡ put_over t₃ h₃ (filter_row (start_of i) n₃.end n₂.children x) i.rows) → Answers Declared 1 r t
             unfolding inside
             filter_read {n₃} {x = x} e₃ e p = done p.0 (ends (out (writes (fewer 2 (omega arith) (reads_one filter_listed refl refl (whole_of u₃ e₃))) refl refl (ap (filter_row (start_of i) n₃.end n₂.children) e ∙ ap (λ (k : ℕ). record { kind = kinds.FILTER; start = start_of i; end = n₃.end; children = k; value = 0; detail = detail_for kinds.FILTER (word_of i) }) (omega arith)) refl p.1)) refl refl refl)
 
   -- `test name block`
   module _ (m : word_of i ≡ 80) {j : Here} (b : j ≡ passed s i) {r₁ : Read} {t₁ : List ℕ} (u₁ : Anyhow s NAME j t₀ 3 r₁ t₁) where
-    pub test_unnamed : {e : Refusal} → r₁ ≡ Refused e → Answers Declared 1 r₁ t₁
+    pub test_unnamed : {e : Refusal} → r₁ ≡ Err e → Answers Declared 1 r₁ t₁
     test_unnamed e = unnamed declaration_test_on tt (is_word m) b u₁ e
 
-    module _ {n₁ : Node} {h₁ : Here} (e₁ : r₁ ≡ Done n₁ h₁) where
+    module _ {n₁ : Node} {h₁ : Here} (e₁ : r₁ ≡ Ok (n₁, h₁)) where
       pub test_named : Going Declared (at (counts (plainly l)) (a BLOCK ∷ row kinds.TEST ∷ []) ∷ []) h₁ t₁ (many (start_of i) n₁.end 1 (some (word_of i))) 0 7
       test_named = named declaration_test_on tt (is_word m) b u₁ e₁
 
       module _ {r₂ : Read} {t₂ : List ℕ} (u₂ : Answers (the s (counts (plainly l)) BLOCK h₁ t₁) 1 r₂ t₂) where
-        pub test_no_block : {e : Refusal} → r₂ ≡ Refused e → Answers Declared 1 r₂ t₂
+        pub test_no_block : {e : Refusal} → r₂ ≡ Err e → Answers Declared 1 r₂ t₂
         unfolding inside
         test_no_block e = relays test_named refl u₂ e
 
-        pub test_read : {n₂ : Node} {h₂ : Here} {x : Row} {r : Read} {t : List ℕ} → r₂ ≡ Done n₂ h₂ → x ≡ plain_row kinds.TEST (start_of i) n₂.end 2 → (r ≡ Done (node_of x) (later h₂)) × (t ≡ put_over t₂ h₂ x i.rows) → Answers Declared 1 r t
+        pub test_read : {n₂ : Node} {h₂ : Here} {x : Row} {r : Read} {t : List ℕ} → r₂ ≡ Ok (n₂, h₂) → x ≡ plain_row kinds.TEST (start_of i) n₂.end 2 → (r ≡ Ok (node_of x, later h₂)) × (t ≡ put_over t₂ h₂ x i.rows) → Answers Declared 1 r t
         unfolding inside
         test_read e₂ e p = done p.0 (ends (out (writes (fewer 2 (omega arith) (reads_one test_named refl refl (whole_of u₂ e₂))) refl refl e refl p.1)) refl refl refl)
 
@@ -238,8 +238,8 @@ module _ (s : List ℕ) (l : Limits) (i : Here) (t₀ : List ℕ) (g : Stands s 
   declared_import {r} {t} m u = go r u
     where
       go : (r : Read) → Answers (the s (counts l) IMPORT i t₀) 1 r t → Answers Declared 1 r t
-      go (Done n h) u = done refl (ends (out (reads_one (begins_on declaration_import_on g (is_word m)) refl refl u.is)) refl refl refl)
-      go (Refused e) u = relays (begins_on declaration_import_on g (is_word m)) refl u refl
+      go (Ok (n, h)) u = done refl (ends (out (reads_one (begins_on declaration_import_on g (is_word m)) refl refl u.is)) refl refl refl)
+      go (Err e) u = relays (begins_on declaration_import_on g (is_word m)) refl u refl
 
   pub undeclared : {r : Read} → (T (one_of (word_of i) declaration_firsts) → ⊥) → r ≡ unused i → Answers Declared 1 r t₀
   undeclared n e = none_fits declaration_off g n e

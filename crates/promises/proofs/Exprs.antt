@@ -1,4 +1,5 @@
 -- The readers of exprs, a law for each way out of one: return forms, left sides, the binary levels, prefixes.
+use Rattle.std.specs.Prelude.{Ok, Err}
 use mathlib.Core.Path.{◌≡◌, refl, sym, ap, subst, ◌∙◌}
 use mathlib.Core.List.{List, [], ◌∷◌}
 use mathlib.Core.Bool.{Bool, true, false, not, ◌&&◌, ◌||◌, cond}
@@ -25,8 +26,7 @@ use Rattle.answers.specs.Source.{source}
 use Rattle.parser.specs.declared.Here.{Here}
 use Rattle.parser.specs.declared.Limits.{Limits}
 use Rattle.parser.specs.declared.Node.{Node}
-use Rattle.parser.specs.declared.Read.{Read}
-use Rattle.parser.specs.declared.Read.TheVariants.{Done, Refused}
+use Rattle.parser.specs.Results.{Read}
 use Rattle.parser.specs.Places.{word_of, end_of, next_of, passed, later, under, refusal_at, node_of, put_over, plain_row}
 use Rattle.parser.specs.Counted.{counts, signed, plain as plainly}
 use Rattle.parser.specs.Going.{language, Stands, Tally, bare, lone, many, with_word, Phrase, Going, Stopped, Answers}
@@ -71,13 +71,13 @@ goes_on g p = let r = g.rows in let e = g.spares in let b = few_rows g in (omega
 
 -- past a prefix
 module _ {f : Phrase} {ks : List Left} {h : Here} {t : List ℕ} {y : Tally} {v k : ℕ} {ss : List Symbol} {w : List ℕ} {r : Read} (l : Limits) (g : Going f (at (counts l) (prefix w ∷ ss) ∷ ks) h t y v k) (o : T (lexed w)) (m : T (one_of (word_of h) w)) (p : r ≡ under f.text h l.signs) where
-  pub signs_on : {x : Node} {z : Here} → r ≡ Done x z → Going f (at (counts (signed l)) ss ∷ ks) z t (with_word y x.start x.end (word_of h)) v (k + 4)
+  pub signs_on : {x : Node} {z : Here} → r ≡ Ok (x, z) → Going f (at (counts (signed l)) ss ∷ ks) z t (with_word y x.start x.end (word_of h)) v (k + 4)
   unfolding kept counts
   signs_on {x} {z} q =
       let u = under_done f.text h l.signs p q in
       subst (λ (c : Counts). Going f (at c ss ∷ ks) z t (with_word y x.start x.end (word_of h)) v (k + 4)) (counts_signed l u.0) (subst (λ (n : Node). Going f (at (after is_prefix (counts l)) ss ∷ ks) z t (with_word y n.start n.end (word_of h)) v (k + 4)) u.1.node (takes g (lexed_solid w o) m (few_used l.signs u.0) u.1.here))
 
-  pub signs_off : {e : Refusal} → r ≡ Refused e → Stopped f e t
+  pub signs_off : {e : Refusal} → r ≡ Err e → Stopped f e t
   unfolding kept counts
   signs_off q = let u = under_refused f.text h l.signs w o m p q in subst (λ (x : Refusal). Stopped f x t) u.1 (refuses_past g (lexed_solid w o) m (all_used l.signs u.0))
 
@@ -122,19 +122,19 @@ module _ (s : List ℕ) (l : Limits) (b : Bool) (h : Here) (t : List ℕ) (g : S
   operand_begins : Going Operand (at (counts l) (prefix (word_of h ∷ []) ∷ a (OPERAND b) ∷ row (sign_kind (word_of h)) ∷ []) ∷ []) h t bare 0 0
   operand_begins = begins_on c.on g (is_word {c = word_of h} refl)
 
-  pub negate_deep : {e : Refusal} → r ≡ Refused e → Answers Operand 1 r t
+  pub negate_deep : {e : Refusal} → r ≡ Err e → Answers Operand 1 r t
   negate_deep q = stopped q (signs_off l operand_begins c.word (is_word {c = word_of h} refl) p q)
 
-  module _ {x : Node} {z : Here} (q : r ≡ Done x z) where
+  module _ {x : Node} {z : Here} (q : r ≡ Ok (x, z)) where
     pub operand_goes : Going Operand (at (counts (signed l)) (a (OPERAND b) ∷ row (sign_kind (word_of h)) ∷ []) ∷ []) z t (many x.start x.end 0 (some (word_of h))) 0 4
     operand_goes = signs_on l operand_begins c.word (is_word {c = word_of h} refl) p q
 
     module _ {p' : Limits} (v : p' ≡ signed l) {r' : Read} {t' : List ℕ} (u : Answers (the s (counts p') (OPERAND b) z t) 1 r' t') where
-      pub negate_fails : {e : Refusal} → r' ≡ Refused e → Answers Operand 1 r' t'
+      pub negate_fails : {e : Refusal} → r' ≡ Err e → Answers Operand 1 r' t'
       unfolding inside
       negate_fails e = relays operand_goes (sym (ap counts v)) u e
 
-      pub negate_ends : {m : Node} {h' : Here} {k : ℕ} {w : Row} {r'' : Read} {t'' : List ℕ} → r' ≡ Done m h' → k ≡ sign_kind (word_of h) → w ≡ plain_row k x.start m.end 1 → r'' ≡ Done (node_of w) (later h') → t'' ≡ put_over t' h' w h.rows → Answers Operand 1 r'' t''
+      pub negate_ends : {m : Node} {h' : Here} {k : ℕ} {w : Row} {r'' : Read} {t'' : List ℕ} → r' ≡ Ok (m, h') → k ≡ sign_kind (word_of h) → w ≡ plain_row k x.start m.end 1 → r'' ≡ Ok (node_of w, later h') → t'' ≡ put_over t' h' w h.rows → Answers Operand 1 r'' t''
       unfolding inside
       negate_ends {m = m} e i w o y =
           let own : (n : ℕ) → Row = λ n. record { kind = sign_kind (word_of h); start = x.start; end = m.end; children = 1; value = 0; detail = n } in
@@ -227,16 +227,16 @@ pub record Joins (f : Phrase) (p : Limits) (n : ℕ) (m : Node) (h : Here) (t : 
 
 module _ (s : List ℕ) (b : Bool) (k : ℕ) (c : Level k b) where
   module _ {d : Counts} {i : Here} {t₀ : List ℕ} (g : Stands s i) {r : Read} {t : List ℕ} (u : Answers (the s d (LEVEL (k + 1) b) i t₀) 1 r t) where
-    pub binop_refused : {e : Refusal} → r ≡ Refused e → Answers (the s d (LEVEL k b) i t₀) 1 r t
+    pub binop_refused : {e : Refusal} → r ≡ Err e → Answers (the s d (LEVEL k b) i t₀) 1 r t
     unfolding inside
     binop_refused e = relays (begins_any c.any g) refl u e
 
-    pub binop_begins : {m : Node} {h : Here} (p : Limits) → r ≡ Done m h → after plain d ≡ counts p → Joins (the s d (LEVEL k b) i t₀) p (MORE k b) m h t
+    pub binop_begins : {m : Node} {h : Here} (p : Limits) → r ≡ Ok (m, h) → after plain d ≡ counts p → Joins (the s d (LEVEL k b) i t₀) p (MORE k b) m h t
     unfolding inside
     binop_begins p e q = record { at_counts = d; then = q; going = reads_one (begins_any c.any g) c.inner refl (whole_of u e) }
 
   module _ {d : Counts} {n : ℕ} {i : Here} {t₀ : List ℕ} {p : Limits} {m : Node} {h : Here} {t : List ℕ} (j : Joins (the s d n i t₀) p (MORE k b) m h t) where
-    pub binop_ends : {r : Read} → level_of (word_of h) ≢ k → r ≡ Done m h → Answers (the s d n i t₀) 1 r t
+    pub binop_ends : {r : Read} → level_of (word_of h) ≢ k → r ≡ Ok (m, h) → Answers (the s d n i t₀) 1 r t
     unfolding inside
     binop_ends w e = done e (ends (out (out (into_off c.off c.rest (off_level (word_of h) k w) j.going))) refl refl refl)
 
@@ -249,11 +249,11 @@ module _ (s : List ℕ) (b : Bool) (k : ℕ) (c : Level k b) where
       binop_behind = let x = sign_taken.stands in let y = goes_on sign_taken (omega arith) in (x, y.0, y.1)
 
       module _ {r : Read} {t' : List ℕ} (u : Answers (the s (counts p) (LEVEL (k + 1) b) h' t) 1 r t') where
-        pub binop_fails : {x : Refusal} → r ≡ Refused x → Answers (the s d n i t₀) 1 r t'
+        pub binop_fails : {x : Refusal} → r ≡ Err x → Answers (the s d n i t₀) 1 r t'
         unfolding inside
         binop_fails q = relays sign_taken refl u q
 
-        module _ {x : Node} {z : Here} (q : r ≡ Done x z) {r' : Read} {t'' : List ℕ} (o : r' ≡ Done (node_of (detail_row kinds.BINARY m x (word_of h))) (later z)) (v : t'' ≡ put_over t' z (detail_row kinds.BINARY m x (word_of h)) i.rows) where
+        module _ {x : Node} {z : Here} (q : r ≡ Ok (x, z)) {r' : Read} {t'' : List ℕ} (o : r' ≡ Ok (node_of (detail_row kinds.BINARY m x (word_of h)), later z)) (v : t'' ≡ put_over t' z (detail_row kinds.BINARY m x (word_of h)) i.rows) where
           row_joined : Going (the s d n i t₀) (at (counts p) (again k b) ∷ at j.at_counts [] ∷ []) (later z) t'' (lone 20 m.start x.end) 0 5
           unfolding inside
           row_joined = writes (reads_one sign_taken c.inner refl (whole_of u q)) refl refl refl refl v
@@ -261,7 +261,7 @@ module _ (s : List ℕ) (b : Bool) (k : ℕ) (c : Level k b) where
           pub binop_compared : k ≡ 3 → {r₀ : Read} → r₀ ≡ r' → Answers (the s d n i t₀) 1 r₀ t''
           binop_compared y a₀ = done (a₀ ∙ o) (ends (fewer {k = 5} 1 (omega arith) (out (out (subst (λ (ss : List Symbol). Going (the s d n i t₀) (at (counts p) ss ∷ at j.at_counts [] ∷ []) (later z) t'' (lone 20 m.start x.end) 0 5) (ap (λ (x : Bool). cond x [] (a (MORE k b) ∷ [])) (T→eq (eqb k 3) (subst (λ (x : ℕ). T (eqb k x)) y (eqb_refl k)))) row_joined)))) refl refl refl)
 
-          pub binop_less : {y : Node} {z' : Here} → r' ≡ Done y z' → (next_of h < next_of z') × (next_of h < 65537)
+          pub binop_less : {y : Node} {z' : Here} → r' ≡ Ok (y, z') → (next_of h < next_of z') × (next_of h < 65537)
           binop_less o' =
               let l = past_word (signs_of k) j.going.stands (lexed_solid (signs_of k) c.words) w e in
               let e₁ = (further u q).next in
@@ -269,7 +269,7 @@ module _ (s : List ℕ) (b : Bool) (k : ℕ) (c : Level k b) where
               let few = few_rows j.going in
               (omega (arith, l, e₁, e₂), omega (arith, few))
 
-          pub binop_joined : k ≢ 3 → {y : Node} {z' : Here} → r' ≡ Done y z' → Joins (the s d n i t₀) p (MORE k b) y z' t''
+          pub binop_joined : k ≢ 3 → {y : Node} {z' : Here} → r' ≡ Ok (y, z') → Joins (the s d n i t₀) p (MORE k b) y z' t''
           unfolding after
           binop_joined y {y = x'} o' =
               let same = done_is o o' in
@@ -308,10 +308,10 @@ module _ (s : List ℕ) (l : Limits) (b : Bool) (h : Here) (t : List ℕ) (g : S
     return_begins : Going Expr (at (counts l) (prefix return_words ∷ a (RETURNED b) ∷ row kinds.RETURN ∷ []) ∷ []) h t bare 0 0
     return_begins = begins_on (expr_return_on b) g w
 
-    pub return_deep : {e : Refusal} → r ≡ Refused e → Answers Expr 1 r t
+    pub return_deep : {e : Refusal} → r ≡ Err e → Answers Expr 1 r t
     return_deep q = stopped q (signs_off l return_begins tt w p q)
 
-    module _ {x : Node} {z : Here} (q : r ≡ Done x z) where
+    module _ {x : Node} {z : Here} (q : r ≡ Ok (x, z)) where
       pub return_goes : Going Expr (at (counts (signed l)) (a (RETURNED b) ∷ row kinds.RETURN ∷ []) ∷ []) z t (many x.start x.end 0 (some (word_of h))) 0 4
       return_goes = signs_on l return_begins tt w p q
 
@@ -320,14 +320,14 @@ module _ (s : List ℕ) (l : Limits) (b : Bool) (h : Here) (t : List ℕ) (g : S
     side_begins : Going Expr (at (counts l) (left_side (BINARY b) (ASSIGNED b) ∷ []) ∷ []) h t bare 0 0
     side_begins = begins_on (expr_side_on b) g w
 
-    pub expr_refused : {e : Refusal} → r ≡ Refused e → Answers Expr 1 r t'
+    pub expr_refused : {e : Refusal} → r ≡ Err e → Answers Expr 1 r t'
     expr_refused e = stopped e (side_refused side_begins (stopped_of u e))
 
-    module _ {m : Node} {z : Here} (q : r ≡ Done m z) where
-      pub expr_eight : {r' : Read} → T (one_of (word_of z) assign_signs) → m.kind ≢ 2 → r' ≡ Refused (refusal_at 8 m.start m.end) → Answers Expr 1 r' t'
+    module _ {m : Node} {z : Here} (q : r ≡ Ok (m, z)) where
+      pub expr_eight : {r' : Read} → T (one_of (word_of z) assign_signs) → m.kind ≢ 2 → r' ≡ Err (refusal_at 8 m.start m.end) → Answers Expr 1 r' t'
       expr_eight o n e = stopped e (side_signed side_begins (whole_of u q) n tt o)
 
-      pub expr_plain : (T (one_of (word_of z) assign_signs) → ⊥) → {r' : Read} → r' ≡ Done m z → Answers Expr 1 r' t'
+      pub expr_plain : (T (one_of (word_of z) assign_signs) → ⊥) → {r' : Read} → r' ≡ Ok (m, z) → Answers Expr 1 r' t'
       unfolding inside
       expr_plain o {r'} q' = go (eqb m.kind 2) refl
         where
@@ -344,10 +344,10 @@ module _ (s : List ℕ) (l : Limits) (b : Bool) (h : Here) (t : List ℕ) (g : S
         expr_behind = let x = side_taken.stands in let y = goes_on side_taken (omega arith) in (x, y.0, y.1)
 
         module _ {p : Limits} (i : p ≡ plainly l) {r' : Read} {t'' : List ℕ} (v : Answers (the s (counts p) (BINARY b) z' t') 1 r' t'') where
-          pub expr_fails : {x : Refusal} → r' ≡ Refused x → Answers Expr 1 r' t''
+          pub expr_fails : {x : Refusal} → r' ≡ Err x → Answers Expr 1 r' t''
           unfolding inside
           expr_fails x = relays side_taken (sym (ap counts i)) v x
 
-          pub expr_assigned : {x : Node} {h' : Here} {r''' : Read} {t''' : List ℕ} → r' ≡ Done x h' → r''' ≡ Done (node_of (detail_row kinds.ASSIGN m x (word_of z))) (later h') → t''' ≡ put_over t'' h' (detail_row kinds.ASSIGN m x (word_of z)) h.rows → Answers Expr 1 r''' t'''
+          pub expr_assigned : {x : Node} {h' : Here} {r''' : Read} {t''' : List ℕ} → r' ≡ Ok (x, h') → r''' ≡ Ok (node_of (detail_row kinds.ASSIGN m x (word_of z)), later h') → t''' ≡ put_over t'' h' (detail_row kinds.ASSIGN m x (word_of z)) h.rows → Answers Expr 1 r''' t'''
           unfolding inside
           expr_assigned x y w = finished_in (reads_one side_taken (rest_binary b) (sym (ap counts i)) (whole_of v x)) (omega arith) refl refl refl y w

@@ -1,4 +1,5 @@
 -- `if`, `while`, `for` and `match`: their heads, and what stands behind an `if`.
+use Rattle.std.specs.Prelude.{Ok, Err}
 use mathlib.Core.Path.{◌≡◌, refl, sym, ap, subst, ◌∙◌}
 use mathlib.Core.List.{List, [], ◌∷◌}
 use mathlib.Core.Bool.{false, ◌&&◌, Bool}
@@ -20,8 +21,7 @@ use Rattle.grammar.proofs.Open.{Left}
 use Rattle.parser.specs.declared.Here.{Here}
 use Rattle.parser.specs.declared.Limits.{Limits}
 use Rattle.parser.specs.declared.Node.{Node}
-use Rattle.parser.specs.declared.Read.{Read}
-use Rattle.parser.specs.declared.Read.TheVariants.{Done, Refused}
+use Rattle.parser.specs.Results.{Read}
 use Rattle.parser.specs.Places.{word_of, start_of, end_of, next_of, passed, later, unused, refusal_at, node_of, put_over, plain_row, expected, under, opening}
 use Rattle.parser.specs.Counted.{counts, headed, chained, unchained, opened, plain as plainly, Alike, used}
 use Rattle.parser.specs.Going.{Stands, Tally, bare, many, with_node, row_over, Phrase, Going, Stopped, Answers}
@@ -37,10 +37,10 @@ use Rattle.promises.proofs.Partly.{partly, partly_of, stops_answer, partly_stops
 
 -- a phrase in it, by the answer of its reader
 module _ {f : Phrase} {s : List ℕ} {d d' : Counts} {ks : List Left} {h : Here} {t t' : List ℕ} {y : Tally} {v k : ℕ} {ss : List Symbol} {o : Scope} {n j : ℕ} {r : Read} (q : f.text ≡ s) (e : inside o d ≡ d') (u : Answers (the s d' n h t) j r t') where
-  pub reads_it : {m : Node} {h' : Here} → Going f (at d (phrase o n ∷ ss) ∷ ks) h t y v k → one_of n rest_kinds ≡ false → r ≡ Done m h' → Going f (at d ss ∷ ks) h' t' (with_node y m) v (k + j)
+  pub reads_it : {m : Node} {h' : Here} → Going f (at d (phrase o n ∷ ss) ∷ ks) h t y v k → one_of n rest_kinds ≡ false → r ≡ Ok (m, h') → Going f (at d ss ∷ ks) h' t' (with_node y m) v (k + j)
   reads_it g z p = reads_one g z refl (whole_of (of_text f q e u) p)
 
-  pub refuses_it : {x : Refusal} → Going f (at d (phrase o n ∷ ss) ∷ ks) h t y v k → r ≡ Refused x → Stopped f x t'
+  pub refuses_it : {x : Refusal} → Going f (at d (phrase o n ∷ ss) ∷ ks) h t y v k → r ≡ Err x → Stopped f x t'
   refuses_it g p = refuses_in g refl (stopped_of (of_text f q e u) p)
 
 -- either way
@@ -48,21 +48,21 @@ pub reads_partly : {f : Phrase} {s : List ℕ} {d d' : Counts} {ks : List Left} 
 reads_partly {f} {s} {d} {d'} {ks} {h} {t} {t'} {y} {v} {k} {ss} {n = n} {j = j} {r = r} q e u g z = go r u
   where
     go : (r : Read) → Answers (the s d' n h t) j r t' → Partly f r t' (λ m h'. Going f (at d ss ∷ ks) h' t' (with_node y m) v (k + j))
-    go (Done m h') u = partly refl (reads_it q e u g z refl)
-    go (Refused x) u = partly_stops refl (refuses_it q e u g refl)
+    go (Ok (m, h')) u = partly refl (reads_it q e u g z refl)
+    go (Err x) u = partly_stops refl (refuses_it q e u g refl)
 
 -- the counts behind a plain token
 pub counts_behind : (l : Limits) {d : Counts} {l' : Limits} → d ≡ counts l → l' ≡ plainly l → after plain d ≡ counts l'
 counts_behind l e p = ap (after plain) e ∙ counts_plain l ∙ ap counts (sym p)
 
 -- where the reader stands behind a head's word, and behind a bracket
-pub under_past : (w n : ℕ) {s : List ℕ} {h : Here} {r : Read} {m : Node} {z : Here} → Stands s h → T (solid (w ∷ [])) → word_of h ≡ w → r ≡ under s h n → r ≡ Done m z → Stands s z × (next_of h < next_of z)
+pub under_past : (w n : ℕ) {s : List ℕ} {h : Here} {r : Read} {m : Node} {z : Here} → Stands s h → T (solid (w ∷ [])) → word_of h ≡ w → r ≡ under s h n → r ≡ Ok (m, z) → Stands s z × (next_of h < next_of z)
 under_past w n {s} {h} g o e u q = let k = past_word (w ∷ []) g o (is_word e) (under_done s h n u q).1.here in (k.0, k.1)
 
-pub expected_past : (w : ℕ) {s : List ℕ} {h : Here} {r : Read} {m : Node} {z : Here} → Stands s h → T (solid (w ∷ [])) → r ≡ expected s h w → r ≡ Done m z → Stands s z × (next_of h < next_of z)
+pub expected_past : (w : ℕ) {s : List ℕ} {h : Here} {r : Read} {m : Node} {z : Here} → Stands s h → T (solid (w ∷ [])) → r ≡ expected s h w → r ≡ Ok (m, z) → Stands s z × (next_of h < next_of z)
 expected_past w {s} {h} g o u q = let x = expected_done s h w u q in let k = past_word (w ∷ []) g o (is_word x.0) x.1.here in (k.0, k.1)
 
-pub opening_past : (w n : ℕ) {s : List ℕ} {h : Here} {r : Read} {m : Node} {z : Here} → Stands s h → T (solid (w ∷ [])) → r ≡ opening s h w n → r ≡ Done m z → Stands s z × (next_of h < next_of z)
+pub opening_past : (w n : ℕ) {s : List ℕ} {h : Here} {r : Read} {m : Node} {z : Here} → Stands s h → T (solid (w ∷ [])) → r ≡ opening s h w n → r ≡ Ok (m, z) → Stands s z × (next_of h < next_of z)
 opening_past w n {s} {h} g o u q = let x = opening_done s h w n u q in let k = past_word (w ∷ []) g o (is_word x.0) x.2.here in (k.0, k.1)
 
 -- behind a head, with c rows: the counts of its expr and of its body
@@ -77,7 +77,7 @@ pub record Head (f : Phrase) (l : Limits) (ss : List Symbol) (h : Here) (t : Lis
 -- the word of a head: 32 at most are open, or it is refused
 module _ (l : Limits) {s : List ℕ} {h : Here} {t : List ℕ} {l' : Limits} (g : Stands s h) (p : l' ≡ unchained l) {r : Read} (u : r ≡ under s h l'.heads) where
   module _ {w : ℕ} {ss : List Symbol} (o : On FOUR (some (head w ∷ ss)) (w ∷ [])) (z : T (lexed (w ∷ []))) (e : word_of h ≡ w) where
-    pub head_on : {m : Node} {i : Here} → r ≡ Done m i → Head (the s (counts l) FOUR h t) l' ss i t m.start 0
+    pub head_on : {m : Node} {i : Here} → r ≡ Ok (m, i) → Head (the s (counts l) FOUR h t) l' ss i t m.start 0
     unfolding kept counts
     head_on {m} {i} q =
         let k = under_done s h l'.heads u q in
@@ -93,7 +93,7 @@ module _ (l : Limits) {s : List ℕ} {h : Here} {t : List ℕ} {l' : Limits} (g 
           going = subst (λ (x : Node). Going (the s (counts l) FOUR h t) (at (after is_head (counts l)) ss ∷ []) i t (many x.start (end_of h) 0 (some (word_of h))) 0 4) k.1.node (takes (begins_on o g (is_word e)) (lexed_solid (w ∷ []) z) (is_word e) (few_used l.heads small) k.1.here);
         }
 
-    pub head_off : {x : Refusal} → r ≡ Refused x → Answers (the s (counts l) FOUR h t) 1 r t
+    pub head_off : {x : Refusal} → r ≡ Err x → Answers (the s (counts l) FOUR h t) 1 r t
     unfolding kept counts
     head_off q =
         let k = under_refused s h l'.heads (w ∷ []) z (is_word e) u q in
@@ -102,21 +102,21 @@ module _ (l : Limits) {s : List ℕ} {h : Here} {t : List ℕ} {l' : Limits} (g 
 
 -- the expr behind a head
 module _ {f : Phrase} {s : List ℕ} {d d' : Counts} {ss : List Symbol} {h : Here} {t t' : List ℕ} {x e c w k : ℕ} {r : Read} (q : f.text ≡ s) (z : d ≡ d') (g : Going f (at d (a (EXPR no_records) ∷ ss) ∷ []) h t (many x e c (some w)) 0 k) (u : Answers (the s d' (EXPR no_records) h t) 1 r t') where
-  head_expr : {m : Node} {i : Here} → r ≡ Done m i → Going f (at d ss ∷ []) i t' (many x m.end (c + 1) (some w)) 0 (k + 1)
+  head_expr : {m : Node} {i : Here} → r ≡ Ok (m, i) → Going f (at d ss ∷ []) i t' (many x m.end (c + 1) (some w)) 0 (k + 1)
   unfolding inside
   head_expr = reads_it q z u g refl
 
-  head_expr_stops : {y : Refusal} → r ≡ Refused y → Answers f 1 r t'
+  head_expr_stops : {y : Refusal} → r ≡ Err y → Answers f 1 r t'
   unfolding inside
   head_expr_stops y = stopped y (refuses_it q z u g y)
 
 -- `expr block`
 module _ (l : Limits) {s : List ℕ} {i : Here} {t₀ : List ℕ} {l' : Limits} {r₁ : Read} {t₁ : List ℕ} (p : l' ≡ headed l) (u₁ : Answers (the s (counts l') (EXPR no_records) i t₀) 1 r₁ t₁) where
-  pub test_fails : {y : Refusal} → r₁ ≡ Refused y → Tested s i t₀ l r₁ t₁
+  pub test_fails : {y : Refusal} → r₁ ≡ Err y → Tested s i t₀ l r₁ t₁
   unfolding inside
   test_fails e₁ f d ss x e c w k q z b g = partly_stops e₁ (refuses_it q (z ∙ ap counts (sym p)) u₁ g e₁)
 
-  pub test_block : {m₁ : Node} {h₁ : Here} {r₂ : Read} {t₂ : List ℕ} → r₁ ≡ Done m₁ h₁ → Answers (the s (counts l) BLOCK h₁ t₁) 1 r₂ t₂ → Tested s i t₀ l r₂ t₂
+  pub test_block : {m₁ : Node} {h₁ : Here} {r₂ : Read} {t₂ : List ℕ} → r₁ ≡ Ok (m₁, h₁) → Answers (the s (counts l) BLOCK h₁ t₁) 1 r₂ t₂ → Tested s i t₀ l r₂ t₂
   test_block e₁ u₂ f d ss x e c w k q z b g = reads_partly q b u₂ (head_expr q (z ∙ ap counts (sym p)) g u₁ e₁) refl
 
 -- from behind the word of a head
@@ -148,7 +148,7 @@ last_four x m i f w = go (which_four x m)
     go (inr (inr (inl e))) = absurd (w e)
     go (inr (inr (inr e))) = e
 
-pub four_deep : (l : Limits) {s : List ℕ} {h : Here} {t : List ℕ} {l' : Limits} {r : Read} {x : Refusal} → Stands s h → T (one_of (word_of h) four_words) → l' ≡ unchained l → r ≡ under s h l'.heads → r ≡ Refused x → Answers (the s (counts l) FOUR h t) 1 r t
+pub four_deep : (l : Limits) {s : List ℕ} {h : Here} {t : List ℕ} {l' : Limits} {r : Read} {x : Refusal} → Stands s h → T (one_of (word_of h) four_words) → l' ≡ unchained l → r ≡ under s h l'.heads → r ≡ Err x → Answers (the s (counts l) FOUR h t) 1 r t
 four_deep l {s} {h} {t} {r = r} g m p u q = go (which_four (word_of h) m)
   where
     go : (word_of h ≡ 69) ⊎ ((word_of h ≡ 73) ⊎ ((word_of h ≡ 81) ⊎ (word_of h ≡ 67))) → Answers (the s (counts l) FOUR h t) 1 r t
@@ -157,7 +157,7 @@ four_deep l {s} {h} {t} {r = r} g m p u q = go (which_four (word_of h) m)
     go (inr (inr (inl e))) = head_off l g p u four_while_on tt e q
     go (inr (inr (inr e))) = head_off l g p u four_for_on tt e q
 
-pub four_past : (n : ℕ) {s : List ℕ} {h : Here} {r : Read} {m : Node} {z : Here} → Stands s h → T (one_of (word_of h) four_words) → r ≡ under s h n → r ≡ Done m z → Stands s z × (next_of h < next_of z)
+pub four_past : (n : ℕ) {s : List ℕ} {h : Here} {r : Read} {m : Node} {z : Here} → Stands s h → T (one_of (word_of h) four_words) → r ≡ under s h n → r ≡ Ok (m, z) → Stands s z × (next_of h < next_of z)
 four_past n {s} {h} g o u q = let k = past_word four_words g tt o (under_done s h n u q).1.here in (k.0, k.1)
 
 module _ (l : Limits) {s : List ℕ} {h : Here} {t : List ℕ} (g : Stands s h) (e : word_of h ≡ 69) where
@@ -175,11 +175,11 @@ module _ (l : Limits) {s : List ℕ} {h : Here} {t : List ℕ} (g : Stands s h) 
 
   -- with so many left, of which the chain may leave none
   module _ {n : ℕ} {r : Read} (u : r ≡ under s h n) where
-    pub else_if_deep : {x : Refusal} → (n ≡ 0 → 0 < l.heads → 0 < l.chain → ⊥) → r ≡ Refused x → Answers (the s (counts l) ELSE_IF h t) 1 r t
+    pub else_if_deep : {x : Refusal} → (n ≡ 0 → 0 < l.heads → 0 < l.chain → ⊥) → r ≡ Err x → Answers (the s (counts l) ELSE_IF h t) 1 r t
     else_if_deep m q = let k = under_refused s h n (69 ∷ []) tt (is_word e) u q in stopped q (subst (λ (y : Refusal). Stopped (the s (counts l) ELSE_IF h t) y t) k.1 (else_if_full (m k.0)))
 
   module _ {r : Read} (u : r ≡ under s h l.heads) where
-    pub else_if_on : {l' : Limits} {m : Node} {i : Here} → 0 < l.chain → l' ≡ chained l → r ≡ Done m i → Head (the s (counts l) ELSE_IF h t) l' (a (EXPR no_records) ∷ behind BLOCK ∷ behind ELSE ∷ row kinds.IF ∷ []) i t m.start 0
+    pub else_if_on : {l' : Limits} {m : Node} {i : Here} → 0 < l.chain → l' ≡ chained l → r ≡ Ok (m, i) → Head (the s (counts l) ELSE_IF h t) l' (a (EXPR no_records) ∷ behind BLOCK ∷ behind ELSE ∷ row kinds.IF ∷ []) i t m.start 0
     unfolding kept counts
     else_if_on {i = i} c p q =
         let k = under_done s h l.heads u q in
@@ -197,19 +197,19 @@ module _ {f : Phrase} {s : List ℕ} {l : Limits} {n : ℕ} {h : Here} {t : List
   tested_head : Partly f r t₁ (λ m h'. Going f (at b.at_counts (row n ∷ []) ∷ []) h' t₁ (many x m.end (c + 1 + 1) (some b.sign)) 0 6)
   tested_head = u f b.at_counts (row n ∷ []) x b.end c b.sign 4 q b.headed_so b.body_so b.going
 
-  pub head_fails : {y : Refusal} → r ≡ Refused y → Answers f 1 r t₁
+  pub head_fails : {y : Refusal} → r ≡ Err y → Answers f 1 r t₁
   head_fails e = stops_answer tested_head e
 
-  pub head_ends : {m : Node} {h₁ : Here} {v : Row} {r₁ : Read} {t₂ : List ℕ} → r ≡ Done m h₁ → eqb n 0 ≡ false → eqb n literal_row ≡ false → v ≡ row_over n (many x m.end (c + 1 + 1) (some b.sign)) 0 → r₁ ≡ Done (node_of v) (later h₁) → t₂ ≡ put_over t₁ h₁ v f.from.rows → Answers f 1 r₁ t₂
+  pub head_ends : {m : Node} {h₁ : Here} {v : Row} {r₁ : Read} {t₂ : List ℕ} → r ≡ Ok (m, h₁) → eqb n 0 ≡ false → eqb n literal_row ≡ false → v ≡ row_over n (many x m.end (c + 1 + 1) (some b.sign)) 0 → r₁ ≡ Ok (node_of v, later h₁) → t₂ ≡ put_over t₁ h₁ v f.from.rows → Answers f 1 r₁ t₂
   head_ends e = finished (partly_of tested_head e) (omega arith)
 
 -- `for name in`
 module _ {f : Phrase} {s : List ℕ} {l : Limits} {ss : List Symbol} {h : Here} {t : List ℕ} {x c : ℕ} (q : f.text ≡ s) (b : Head f l (a NAME ∷ word 'in' ∷ ss) h t x c) {r₁ : Read} {t₁ : List ℕ} (u₁ : Anyhow s NAME h t 3 r₁ t₁) where
-  pub for_name_fails : {y : Refusal} → r₁ ≡ Refused y → Answers f 1 r₁ t₁
+  pub for_name_fails : {y : Refusal} → r₁ ≡ Err y → Answers f 1 r₁ t₁
   unfolding inside
   for_name_fails e₁ = stopped e₁ (refuses_it q refl (u₁ b.at_counts) b.going e₁)
 
-  module _ {m₁ : Node} {h₁ : Here} (e₁ : r₁ ≡ Done m₁ h₁) {r₂ : Read} (u₂ : r₂ ≡ expected s h₁ 71) where
+  module _ {m₁ : Node} {h₁ : Here} (e₁ : r₁ ≡ Ok (m₁, h₁)) {r₂ : Read} (u₂ : r₂ ≡ expected s h₁ 71) where
     for_in : Going f (at b.at_counts (word 'in' ∷ ss) ∷ []) h₁ t₁ (many x m₁.end (c + 1) (some b.sign)) 0 7
     unfolding inside
     for_in = reads_it q refl (u₁ b.at_counts) b.going refl e₁
@@ -217,10 +217,10 @@ module _ {f : Phrase} {s : List ℕ} {l : Limits} {ss : List Symbol} {h : Here} 
     expects_in : r₂ ≡ expected f.text h₁ 71
     expects_in = subst (λ (y : List ℕ). r₂ ≡ expected y h₁ 71) (sym q) u₂
 
-    pub for_in_fails : {y : Refusal} → r₂ ≡ Refused y → Answers f 1 r₂ t₁
+    pub for_in_fails : {y : Refusal} → r₂ ≡ Err y → Answers f 1 r₂ t₁
     for_in_fails e₂ = stopped e₂ (misses 71 for_in tt expects_in e₂)
 
-    pub for_on : {m₂ : Node} {h₂ : Here} → l.signs ≡ 32 → r₂ ≡ Done m₂ h₂ → Head f l ss h₂ t₁ x (c + 1)
+    pub for_on : {m₂ : Node} {h₂ : Here} → l.signs ≡ 32 → r₂ ≡ Ok (m₂, h₂) → Head f l ss h₂ t₁ x (c + 1)
     unfolding after inside
     for_on {m₂} o e₂ = record {
       at_counts = after plain b.at_counts;
@@ -233,36 +233,36 @@ module _ {f : Phrase} {s : List ℕ} {l : Limits} {ss : List Symbol} {h : Here} 
 
 -- the two as their reader tells of them
 module _ {f : Phrase} {s : List ℕ} {l : Limits} {ss : List Symbol} {h : Here} {t : List ℕ} {x c : ℕ} (q : f.text ≡ s) (b : Head f l (a NAME ∷ word 'in' ∷ ss) h t x c) {r : Read} {t₁ : List ℕ} (u : NamedIn s h t r t₁) where
-  pub name_in_fails : {y : Refusal} → r ≡ Refused y → Answers f 1 r t₁
+  pub name_in_fails : {y : Refusal} → r ≡ Err y → Answers f 1 r t₁
   name_in_fails {y} e = go u.first refl
     where
       go : (v : Read) → u.first ≡ v → Answers f 1 r t₁
-      go (Done m z) i = for_in_fails q b u.name i (u.goes i) e
-      go (Refused z) i = subst (λ (v : Read). Answers f 1 v t₁) (sym (u.stops i)) (for_name_fails q b u.name i)
+      go (Ok (m, z)) i = for_in_fails q b u.name i (u.goes i) e
+      go (Err z) i = subst (λ (v : Read). Answers f 1 v t₁) (sym (u.stops i)) (for_name_fails q b u.name i)
 
-  pub name_in_on : {m : Node} {z : Here} → l.signs ≡ 32 → r ≡ Done m z → Head f l ss z t₁ x (c + 1)
+  pub name_in_on : {m : Node} {z : Here} → l.signs ≡ 32 → r ≡ Ok (m, z) → Head f l ss z t₁ x (c + 1)
   name_in_on {z = z₁} o e = go u.first refl
     where
       go : (v : Read) → u.first ≡ v → Head f l ss z₁ t₁ x (c + 1)
-      go (Done m z) i = for_on q b u.name i (u.goes i) o e
-      go (Refused z) i = not_both e (u.stops i ∙ i)
+      go (Ok (m, z)) i = for_on q b u.name i (u.goes i) o e
+      go (Err z) i = not_both e (u.stops i ∙ i)
 
-pub name_in_past : {s : List ℕ} {h : Here} {t : List ℕ} {r : Read} {t₁ : List ℕ} {m : Node} {z : Here} → Stands s h → NamedIn s h t r t₁ → r ≡ Done m z → Stands s z × (next_of h < next_of z)
+pub name_in_past : {s : List ℕ} {h : Here} {t : List ℕ} {r : Read} {t₁ : List ℕ} {m : Node} {z : Here} → Stands s h → NamedIn s h t r t₁ → r ≡ Ok (m, z) → Stands s z × (next_of h < next_of z)
 name_in_past {s} {h} {z = z} g u e = go u.first refl
   where
     go : (v : Read) → u.first ≡ v → Stands s z × (next_of h < next_of z)
-    go (Done m₁ h₁) i =
+    go (Ok (m₁, h₁)) i =
         let x = further (u.name zeros) i in
         let y = expected_past 71 x.stands tt (u.goes i) e in
         (y.0, let a = x.next in let b = y.1 in omega (arith, a, b))
-    go (Refused x) i = not_both e (u.stops i ∙ i)
+    go (Err x) i = not_both e (u.stops i ∙ i)
 
 -- `match expr {`
 module _ {f : Phrase} {s : List ℕ} {l l' : Limits} {h : Here} {t : List ℕ} {x : ℕ} {r₁ : Read} {t₁ : List ℕ} (q : f.text ≡ s) (p : l' ≡ headed l) (b : Head f l after_match h t x 0) (u₁ : Answers (the s (counts l') (EXPR no_records) h t) 1 r₁ t₁) where
-  pub match_expr_fails : {y : Refusal} → r₁ ≡ Refused y → Answers f 1 r₁ t₁
+  pub match_expr_fails : {y : Refusal} → r₁ ≡ Err y → Answers f 1 r₁ t₁
   match_expr_fails e₁ = head_expr_stops q (b.headed_so ∙ ap counts (sym p)) b.going u₁ e₁
 
-  module _ {m₁ : Node} {h₁ : Here} (e₁ : r₁ ≡ Done m₁ h₁) {r₂ : Read} (u₂ : r₂ ≡ opening s h₁ 40 l.brackets) where
+  module _ {m₁ : Node} {h₁ : Here} (e₁ : r₁ ≡ Ok (m₁, h₁)) {r₂ : Read} (u₂ : r₂ ≡ opening s h₁ 40 l.brackets) where
     matches : Going f (at b.at_counts (opens open_brace ∷ behind ARMS ∷ closes close_brace ∷ row kinds.MATCH ∷ []) ∷ []) h₁ t₁ (many x m₁.end 1 (some b.sign)) 0 5
     matches = head_expr q (b.headed_so ∙ ap counts (sym p)) b.going u₁ e₁
 
@@ -272,15 +272,15 @@ module _ {f : Phrase} {s : List ℕ} {l l' : Limits} {h : Here} {t : List ℕ} {
     opens_arms : r₂ ≡ opening f.text h₁ 40 l.brackets
     opens_arms = subst (λ (y : List ℕ). r₂ ≡ opening y h₁ 40 l.brackets) (sym q) u₂
 
-    pub match_fails : {y : Refusal} → r₂ ≡ Refused y → Answers f 1 r₂ t₁
+    pub match_fails : {y : Refusal} → r₂ ≡ Err y → Answers f 1 r₂ t₁
     match_fails e₂ = stopped e₂ (opens_off 40 (headed l) matches tt match_alike opens_arms e₂)
 
-    pub match_ends : {l₃ : Limits} {m₂ : Node} {h₂ : Here} {r : Read} {t₂ : List ℕ} → r₂ ≡ Done m₂ h₂ → l₃ ≡ opened l → Matched s h₂ t₁ l₃ x h.rows r t₂ → Answers f 1 r t₂
+    pub match_ends : {l₃ : Limits} {m₂ : Node} {h₂ : Here} {r : Read} {t₂ : List ℕ} → r₂ ≡ Ok (m₂, h₂) → l₃ ≡ opened l → Matched s h₂ t₁ l₃ x h.rows r t₂ → Answers f 1 r t₂
     unfolding after inside
     match_ends e₂ o v = v f (after opens_bracket b.at_counts) _ _ q (none_yet b.going) (ap (after opens_bracket) b.body_so ∙ counts_opened l (opening_done s h₁ 40 l.brackets u₂ e₂).1 ∙ ap counts (sym o)) (fewer 1 (omega arith) (opens_on 40 (headed l) matches tt match_alike opens_arms e₂))
 
 -- no `else`: the `if` ends
-pub else_none : {f : Phrase} {d : Counts} {h : Here} {t : List ℕ} {x e w k : ℕ} {v : Row} {r : Read} {t' : List ℕ} → Going f (at d (behind ELSE ∷ row kinds.IF ∷ []) ∷ []) h t (many x e 2 (some w)) 0 k → 2 ≤ k → word_of h ≢ 63 → v ≡ plain_row kinds.IF x e 2 → r ≡ Done (node_of v) (later h) → t' ≡ put_over t h v f.from.rows → Answers f 1 r t'
+pub else_none : {f : Phrase} {d : Counts} {h : Here} {t : List ℕ} {x e w k : ℕ} {v : Row} {r : Read} {t' : List ℕ} → Going f (at d (behind ELSE ∷ row kinds.IF ∷ []) ∷ []) h t (many x e 2 (some w)) 0 k → 2 ≤ k → word_of h ≢ 63 → v ≡ plain_row kinds.IF x e 2 → r ≡ Ok (node_of v, later h) → t' ≡ put_over t h v f.from.rows → Answers f 1 r t'
 else_none g j n v r t = finished (out (into_off else_off refl (λ m. n (the_word m)) g)) j refl refl v r t
 
 -- behind `else`
@@ -294,10 +294,10 @@ pub else_fails : (l : Limits) {s : List ℕ} {h : Here} {t : List ℕ} {start si
 else_fails l i o u f d e w k q n g = stopped u (refuses_off elses_off (not_first _ 69 (40 ∷ []) i (not_first _ 40 [] o (λ y. y))) g)
 
 module _ (l : Limits) {s : List ℕ} {h : Here} {t : List ℕ} (i : word_of h ≡ 40) {start since : ℕ} {r : Read} {t₁ : List ℕ} (u : Answers (the s (counts l) BLOCK h t) 1 r t₁) where
-  pub else_block_fails : {y : Refusal} → r ≡ Refused y → Elsed s h t l start since r t₁
+  pub else_block_fails : {y : Refusal} → r ≡ Err y → Elsed s h t l start since r t₁
   unfolding inside
   else_block_fails j f d e w k q n g = stopped j (refuses_it q refl u (into_on elses_block_on refl (is_word i) g) j)
 
-  pub else_ends : {m : Node} {j : Here} {v : Row} {r₁ : Read} {t₂ : List ℕ} → r ≡ Done m j → v ≡ plain_row kinds.IF start m.end 3 → r₁ ≡ Done (node_of v) (later j) → t₂ ≡ put_over t₁ j v since → Elsed s h t l start since r₁ t₂
+  pub else_ends : {m : Node} {j : Here} {v : Row} {r₁ : Read} {t₂ : List ℕ} → r ≡ Ok (m, j) → v ≡ plain_row kinds.IF start m.end 3 → r₁ ≡ Ok (node_of v, later j) → t₂ ≡ put_over t₁ j v since → Elsed s h t l start since r₁ t₂
   unfolding inside
   else_ends {j = j} p v o y f d e w k q n g = finished (out (out (reads_it q refl u (into_on elses_block_on refl (is_word i) g) refl p))) (omega arith) refl refl v o (put_since _ j _ n y)

@@ -1,4 +1,5 @@
 -- Import paths and their groups, and an import.
+use Rattle.std.specs.Prelude.{Ok, Err}
 use mathlib.Core.Path.{◌≡◌, refl, sym, ap, subst, ◌∙◌}
 use mathlib.Core.List.{List, [], ◌∷◌}
 use mathlib.Core.Bool.{Bool, true, false}
@@ -21,8 +22,7 @@ use Rattle.grammar.proofs.Summary.{or_word}
 use Rattle.parser.specs.declared.Here.{Here}
 use Rattle.parser.specs.declared.Limits.{Limits}
 use Rattle.parser.specs.declared.Node.{Node}
-use Rattle.parser.specs.declared.Read.{Read}
-use Rattle.parser.specs.declared.Read.TheVariants.{Done, Refused}
+use Rattle.parser.specs.Results.{Read}
 use Rattle.parser.specs.Places.{word_of, end_of, next_of, passed, later, unused, node_of, size_from, put_over, plain_row, expected, opening, start_of}
 use Rattle.parser.specs.Counted.{counts, opened, plain as plainly, Alike}
 use Rattle.parser.specs.Going.{Stands, store, many, Phrase, Going, Whole, Answers}
@@ -52,11 +52,11 @@ module _ (s : List ℕ) (i : Here) (t₀ : List ℕ) (l : Limits) where
   Path = the s (counts l) IMPORTPATH i t₀
 
   module _ (g : Stands s i) {r : Read} {t : List ℕ} (u : Anyhow s PATH_ITEM i t₀ 3 r t) where
-    pub path_begins : {m : Node} {h : Here} → r ≡ Done m h → Begun Path l m.start m.end 1 h t
+    pub path_begins : {m : Node} {h : Here} → r ≡ Ok (m, h) → Begun Path l m.start m.end 1 h t
     unfolding inside
     path_begins e = record { at_counts = counts l; alike = alike_counts l; sign = none; going = as_many (alone (reads_one (begins_any importpath_any g) refl refl (whole_of (u (counts l)) e))) }
 
-    pub path_refused : {e : Refusal} → r ≡ Refused e → Answers Path 2 r t
+    pub path_refused : {e : Refusal} → r ≡ Err e → Answers Path 2 r t
     unfolding inside
     path_refused e = relays (begins_any importpath_any g) refl (u (counts l)) e
 
@@ -67,11 +67,11 @@ module _ (s : List ℕ) (i : Here) (t₀ : List ℕ) (l : Limits) where
       unfolding inside kept
       path_behind = fewer 3 (omega arith) (last (takes (into_on importpath_rest_on refl (is_word m) b.going) tt (is_word m) tt p))
 
-      pub path_more : {r : Read} {t' : List ℕ} {n : Node} {z : Here} → T (one_of (word_of h') path_items) → Anyhow s PATH_ITEM h' t 3 r t' → r ≡ Done n z → Begun Path l x n.end (c + 1) z t'
+      pub path_more : {r : Read} {t' : List ℕ} {n : Node} {z : Here} → T (one_of (word_of h') path_items) → Anyhow s PATH_ITEM h' t 3 r t' → r ≡ Ok (n, z) → Begun Path l x n.end (c + 1) z t'
       unfolding inside
       path_more k u q = record { at_counts = after plain b.at_counts; alike = alike_plain l b.alike; sign = or_word b.sign (word_of h); going = fewer 3 (omega arith) (last (reads_one (into_on importpath_dot_item_on refl k path_behind) refl refl (whole_of (u (after plain b.at_counts)) q))) }
 
-      pub path_fails : {r : Read} {t' : List ℕ} {z : Refusal} → T (one_of (word_of h') path_items) → Anyhow s PATH_ITEM h' t 3 r t' → r ≡ Refused z → Answers Path 2 r t'
+      pub path_fails : {r : Read} {t' : List ℕ} {z : Refusal} → T (one_of (word_of h') path_items) → Anyhow s PATH_ITEM h' t 3 r t' → r ≡ Err z → Answers Path 2 r t'
       unfolding inside
       path_fails k u q = relays (into_on importpath_dot_item_on refl k path_behind) refl (u (after plain b.at_counts)) q
 
@@ -94,7 +94,7 @@ module _ (s : List ℕ) (i : Here) (t₀ : List ℕ) (l : Limits) where
       pub path_neither : {r : Read} → word_of h' ≢ 40 → (T (one_of (word_of h') path_items) → ⊥) → r ≡ unused h' → Answers Path 2 r t
       path_neither n k q = stopped q (refuses_off importpath_dot_off (λ z. elim (or_cases (eqb (word_of h') open_brace) (one_of (word_of h') path_items) z) [ inl y ↦ n (eqb→eq (word_of h') open_brace y) | inr y ↦ k y ]) path_behind)
 
-    pub path_ends : {q : Row} {r : Read} {t' : List ℕ} → word_of h ≢ 49 → q ≡ plain_row kinds.IMPORT_PATH x e c → (r ≡ Done (node_of q) (later h)) × (t' ≡ put_over t h q i.rows) → Answers Path 2 r t'
+    pub path_ends : {q : Row} {r : Read} {t' : List ℕ} → word_of h ≢ 49 → q ≡ plain_row kinds.IMPORT_PATH x e c → (r ≡ Ok (node_of q, later h)) × (t' ≡ put_over t h q i.rows) → Answers Path 2 r t'
     unfolding inside
     path_ends n o p = done p.0 (ends (out (writes (out (out (into_off importpath_rest_off refl (λ z. n (the_word z)) b.going))) refl refl o refl p.1)) refl refl refl)
 
@@ -122,21 +122,21 @@ pub record Grouping (f : Phrase) (d : Counts) (start children : ℕ) (h : Here) 
 
 module _ {f : Phrase} {d : Counts} (l : Limits) (k : Alike d l) where
   module _ {x e m : ℕ} {w : Option ℕ} {h : Here} {t : List ℕ} {r : Read} (b : Going f (at d (a IMPORTPATH_DOT ∷ []) ∷ at f.counts (row kinds.IMPORT_PATH ∷ []) ∷ []) h t (many x e m w) 0 3) (o : word_of h ≡ 40) (q : r ≡ opening f.text h 40 l.brackets) where
-    pub group_opens : {y : Node} {z : Here} → r ≡ Done y z → Grouping f d x m z t
+    pub group_opens : {y : Node} {z : Here} → r ≡ Ok (y, z) → Grouping f d x m z t
     unfolding inside
     group_opens {y} {z} p = record { end = y.end; sign = or_word w 40; going = fewer 3 (omega arith) (alone (opens_on 40 l (into_on importpath_dot_group_on refl (is_word o) b) tt k q p)) }
 
-    pub group_unopened : {z : Refusal} → r ≡ Refused z → Answers f 2 r t
+    pub group_unopened : {z : Refusal} → r ≡ Err z → Answers f 2 r t
     unfolding inside
     group_unopened p = stopped p (opens_off 40 l (into_on importpath_dot_group_on refl (is_word o) b) tt k q p)
 
 module _ {f : Phrase} {d : Counts} (l : Limits) (k : after opens_bracket d ≡ counts l) where
   module _ {x m : ℕ} {h : Here} {t : List ℕ} {r : Read} {t' : List ℕ} (b : Grouping f d x m h t) (u : Answers (the f.text (counts l) IMPORTPATH h t) 2 r t') where
-    pub group_refused : {z : Refusal} → r ≡ Refused z → Answers f 2 r t'
+    pub group_refused : {z : Refusal} → r ≡ Err z → Answers f 2 r t'
     unfolding inside
     group_refused p = relays (into_off importpaths_any refl (λ z. z) b.going) k u p
 
-    module _ {y : Node} {z : Here} (p : r ≡ Done y z) where
+    module _ {y : Node} {z : Here} (p : r ≡ Ok (y, z)) where
       group_read : Going f (at (after opens_bracket d) (a IMPORTPATHS_MORE ∷ []) ∷ at (after opens_bracket d) (closes close_brace ∷ []) ∷ at d [] ∷ at f.counts (row kinds.IMPORT_PATH ∷ []) ∷ []) z t' (many x y.end (m + 1) b.sign) 0 5
       unfolding inside
       group_read = last (reads_one (into_off importpaths_any refl (λ z. z) b.going) refl k (whole_of u p))
@@ -165,7 +165,7 @@ module _ {s : List ℕ} {i : Here} {c : ℕ} {h : Here} (b : Counting s i c h) w
   pub counting_few : (c < 300000) × (next_of h ≤ 65536)
   counting_few = let p = b.stands.few in let q = next_small b.stands in let r = b.stands.short in let x = b.few in (omega arith, omega arith)
 
-  pub counting_more : {d : Counts} {n k : ℕ} {t t' : List ℕ} {r : Read} {m : Node} {z z' : Here} → Answers (the s d n h t) k r t' → r ≡ Done m z → word_of z ≡ 48 → z' ≡ passed s z → Counting s i (c + 1) z' × (next_of h < next_of z')
+  pub counting_more : {d : Counts} {n k : ℕ} {t t' : List ℕ} {r : Read} {m : Node} {z z' : Here} → Answers (the s d n h t) k r t' → r ≡ Ok (m, z) → word_of z ≡ 48 → z' ≡ passed s z → Counting s i (c + 1) z' × (next_of h < next_of z')
   counting_more u e w p =
       let v = whole_of u e in
       let q = past_word (48 ∷ []) v.stands tt (is_word w) p in
@@ -178,10 +178,10 @@ module _ {s : List ℕ} {i : Here} {c : ℕ} {h : Here} (b : Counting s i c h) w
       (record { stands = q.0; few = omega (arith, x, few, j); ahead = omega (arith, x, y, ahead, g) }, omega (arith, x, y, g))
 
 -- Behind the `{`: the counts there, and how far the reader came.
-pub group_inner : (s : List ℕ) (h : Here) (l : Limits) {r : Read} {y : Node} {z : Here} {d : Counts} {x : Limits} → r ≡ opening s h 40 l.brackets → r ≡ Done y z → Alike d l → x ≡ opened l → after opens_bracket d ≡ counts x
+pub group_inner : (s : List ℕ) (h : Here) (l : Limits) {r : Read} {y : Node} {z : Here} {d : Counts} {x : Limits} → r ≡ opening s h 40 l.brackets → r ≡ Ok (y, z) → Alike d l → x ≡ opened l → after opens_bracket d ≡ counts x
 group_inner s h l q p k e = alike_opened l k (opening_done s h 40 l.brackets q p).1 ∙ ap counts (sym e)
 
-pub group_starts : (s : List ℕ) (h : Here) (n : ℕ) {c : ℕ} {r : Read} {y : Node} {z : Here} → r ≡ opening s h 40 n → r ≡ Done y z → Stands s h → c ≤ h.rows → Counting s z c z × (next_of h < next_of z)
+pub group_starts : (s : List ℕ) (h : Here) (n : ℕ) {c : ℕ} {r : Read} {y : Node} {z : Here} → r ≡ opening s h 40 n → r ≡ Ok (y, z) → Stands s h → c ≤ h.rows → Counting s z c z × (next_of h < next_of z)
 group_starts s h n q p g f =
     let o = opening_done s h 40 n q p in
     let k = past_word (40 ∷ []) g tt (is_word o.0) o.2.here in
@@ -203,11 +203,11 @@ whole_fewer j q u = record { draft = u.draft; read = u.read; stands = u.stands; 
 -- An import path and its row; `import`, that and `;`.
 module _ (s : List ℕ) (l : Limits) (i : Here) (t₀ : List ℕ) (g : Stands s i) where
   module _ {r : Read} {t : List ℕ} (u : Answers (the s (counts l) IMPORTPATH i t₀) 2 r t) where
-    pub imported_read : {m : Node} {h : Here} {q : Row} {r' : Read} {t' : List ℕ} → r ≡ Done m h → q ≡ plain_row kinds.IMPORT m.start m.end 1 → (r' ≡ Done (node_of q) (later h)) × (t' ≡ put_over t h q i.rows) → Answers (the s (counts l) IMPORTED i t₀) 1 r' t'
+    pub imported_read : {m : Node} {h : Here} {q : Row} {r' : Read} {t' : List ℕ} → r ≡ Ok (m, h) → q ≡ plain_row kinds.IMPORT m.start m.end 1 → (r' ≡ Ok (node_of q, later h)) × (t' ≡ put_over t h q i.rows) → Answers (the s (counts l) IMPORTED i t₀) 1 r' t'
     unfolding inside
     imported_read e q p = done p.0 (ends (out (writes (reads_one (begins_any imported_any g) refl refl (whole_of u e)) refl refl q refl p.1)) refl refl refl)
 
-    pub imported_refused : {e : Refusal} → r ≡ Refused e → Answers (the s (counts l) IMPORTED i t₀) 1 r t
+    pub imported_refused : {e : Refusal} → r ≡ Err e → Answers (the s (counts l) IMPORTED i t₀) 1 r t
     unfolding inside
     imported_refused e = relays (begins_any imported_any g) refl u e
 
@@ -220,19 +220,19 @@ module _ (s : List ℕ) (l : Limits) (i : Here) (t₀ : List ℕ) (g : Stands s 
     import_word = takes (begins_any import_any g) tt (is_word o) tt b
 
     module _ {r : Read} {t : List ℕ} (u : Answers (the s (counts (plainly l)) IMPORTED j t₀) 1 r t) where
-      pub import_refused : {e : Refusal} → r ≡ Refused e → Answers Import 1 r t
+      pub import_refused : {e : Refusal} → r ≡ Err e → Answers Import 1 r t
       unfolding inside
       import_refused e = relays import_word refl u e
 
-      module _ {m : Node} {h : Here} (e : r ≡ Done m h) where
+      module _ {m : Node} {h : Here} (e : r ≡ Ok (m, h)) where
         import_row : Around Import (at (counts (plainly l)) (word semicolon ∷ []) ∷ []) h t m 5
         unfolding inside
         import_row = encloses import_word refl refl (whole_of u e)
 
         module _ {r' : Read} (q : r' ≡ expected s h 47) where
-          pub import_unended : {e' : Refusal} → r' ≡ Refused e' → Answers Import 1 r' t
-          import_unended e' = let k = expected_refused s h 47 tt q e' in stopped (e' ∙ ap Refused (sym k.1)) (encloses_misses import_row (λ x. k.0 (the_word x)))
+          pub import_unended : {e' : Refusal} → r' ≡ Err e' → Answers Import 1 r' t
+          import_unended e' = let k = expected_refused s h 47 tt q e' in stopped (e' ∙ ap Err (sym k.1)) (encloses_misses import_row (λ x. k.0 (the_word x)))
 
-          pub import_read : {m' : Node} {h' : Here} → r' ≡ Done m' h' → Answers Import 1 (Done m h') t
+          pub import_read : {m' : Node} {h' : Here} → r' ≡ Ok (m', h') → Answers Import 1 (Ok (m, h')) t
           unfolding kept
           import_read e' = let k = expected_done s h 47 q e' in done refl (whole_fewer 1 (omega arith) (encloses_ends (encloses_out (encloses_word import_row tt (is_word k.0) tt k.1.here))))

@@ -1,5 +1,6 @@
 -- Factors joined by the signs of all levels from one on: the loop stands in the chain of a level, and goes down to a looser one
 -- where that level's sign stands.
+use Rattle.std.specs.Prelude.{Ok, Err}
 use mathlib.Core.Path.{◌≡◌, refl, sym, ap, subst, ◌∙◌}
 use mathlib.Core.List.{List}
 use mathlib.Core.Bool.{Bool, true, false, ◌||◌, cond}
@@ -17,13 +18,11 @@ use Rattle.grammar.specs.Kinds.{OPERAND}
 use Rattle.parser.specs.declared.Here.{Here}
 use Rattle.parser.specs.declared.Limits.{Limits}
 use Rattle.parser.specs.declared.Node.{Node}
-use Rattle.parser.specs.declared.Read.{Read}
-use Rattle.parser.specs.declared.Read.TheVariants.{Done, Refused}
+use Rattle.parser.specs.Results.{Read}
 use Rattle.parser.specs.Places.{word_of, next_of, passed, later, node_of, put_over}
 use Rattle.parser.specs.Counted.{counts, plain as plainly}
 use Rattle.parser.specs.Going.{Stands, Answers}
 use Rattle.grammar.proofs.Bools.{or_l, or_r, or_cases}
-use Rattle.tokens.specs.declared.Step.TheVariants as step
 use Rattle.parser.proofs.Standing.{never_untaken}
 use Rattle.parser.proofs.Steps.{counts_plain}
 use Rattle.promises.specs.Firsts.{level_of, detail_row, joined_read, joined_table, looser_than}
@@ -53,14 +52,14 @@ module _ (s : List ℕ) (b : Bool) (p : Limits) (d : Counts) (i : Here) (t₀ : 
       down n k lo (omega (arith, hi, le)) (λ x u v. w x u (omega (arith, v, le))) (subst (λ (x : ℕ). Chain x m h t) e c)
 
   -- a refusal at a level is one of each looser level
-  up : (n k : ℕ) {r : Read} {t : List ℕ} {e : Refusal} → 1 ≤ k → k + n ≤ 6 → Answers (the s d (LEVEL (k + n) b) i t₀) 1 r t → r ≡ Refused e → Answers (the s d (LEVEL k b) i t₀) 1 r t
+  up : (n k : ℕ) {r : Read} {t : List ℕ} {e : Refusal} → 1 ≤ k → k + n ≤ 6 → Answers (the s d (LEVEL (k + n) b) i t₀) 1 r t → r ≡ Err e → Answers (the s d (LEVEL k b) i t₀) 1 r t
   up zero k {r} {t} lo hi u e = subst (λ (x : ℕ). Answers (the s d (LEVEL x b) i t₀) 1 r t) (add-zero k) u
   up (suc n) k {r} {t} lo hi u e =
       let x : ℕ = k + n in
       let y : k + suc n ≡ x + 1 = omega arith in
       up n k lo (omega (arith, hi)) (binop_refused s b x (level_of_lem x b (omega (arith, lo)) (omega (arith, hi))) g (subst (λ (z : ℕ). Answers (the s d (LEVEL z b) i t₀) 1 r t) y u) e) e
 
-  pub refused_down : (j k : ℕ) {r : Read} {t : List ℕ} {e : Refusal} → 1 ≤ k → k ≤ j → j ≤ 6 → Answers (the s d (LEVEL j b) i t₀) 1 r t → r ≡ Refused e → Answers (the s d (LEVEL k b) i t₀) 1 r t
+  pub refused_down : (j k : ℕ) {r : Read} {t : List ℕ} {e : Refusal} → 1 ≤ k → k ≤ j → j ≤ 6 → Answers (the s d (LEVEL j b) i t₀) 1 r t → r ≡ Err e → Answers (the s d (LEVEL k b) i t₀) 1 r t
   refused_down j k {r} {t} lo le hi u e =
       let n : ℕ = j - k in
       let y : j ≡ k + n = omega (arith, le) in
@@ -89,11 +88,11 @@ level_from {n} {k} {j} t = (at_least n k (λ h. none (or_l (ltb n k) (ltb j n) h
 pub record Reached (s : List ℕ) (b : Bool) (p : Limits) (level : ℕ) (d : Counts) (i : Here) (t₀ : List ℕ) (k : ℕ) (m : Node) (h : Here) (t : List ℕ) : Type 0 where
   pub most : k ≤ 5
   pub chain : level ≤ k → Joins (the s d (LEVEL k b) i t₀) p (MORE k b) m h t
-  pub past : k < level → Answers (the s d (LEVEL level b) i t₀) 1 (Done m h) t
+  pub past : k < level → Answers (the s d (LEVEL level b) i t₀) 1 (Ok (m, h)) t
 
 module _ (s : List ℕ) (b : Bool) (p : Limits) (level : ℕ) (lo : 1 ≤ level) (hi : level ≤ 5) {d : Counts} {i : Here} {t₀ : List ℕ} (g : Stands s i) (q : after plain d ≡ counts p) {k : ℕ} {m : Node} {h : Here} {t : List ℕ} (c : Reached s b p level d i t₀ k m h t) where
   -- no sign of a level from the one asked for to k stands there
-  pub levels_end : {r : Read} → (level_of (word_of h) < level) ⊎ (k < level_of (word_of h)) → r ≡ Done m h → Answers (the s d (LEVEL level b) i t₀) 1 r t
+  pub levels_end : {r : Read} → (level_of (word_of h) < level) ⊎ (k < level_of (word_of h)) → r ≡ Ok (m, h) → Answers (the s d (LEVEL level b) i t₀) 1 r t
   levels_end {r} w e = elim (dec_le level k) [
     | yes x ↦ binop_ends s b level (level_of_lem level b lo hi) (lowered s b p d i t₀ g q k level lo x c.most (λ y u z. elsewhere y (omega (arith, u)) z w) (c.chain x)) (elsewhere level (omega arith) x w) e
     | no x ↦ subst (λ (y : Read). Answers (the s d (LEVEL level b) i t₀) 1 y t) (sym e) (c.past (omega (arith, x)))
@@ -103,7 +102,7 @@ module _ (s : List ℕ) (b : Bool) (p : Limits) (level : ℕ) (lo : 1 ≤ level)
       elsewhere y a z (inl w) f = omega (arith, w, a, f)
       elsewhere y a z (inr w) f = omega (arith, w, z, f)
 
-  pub levels_untaken : {A : Type 0} {n : ℕ} {f : Refusal} → n ≡ level_of (word_of h) → level ≤ n → n ≤ k → h.step ≡ step.Refused f → A
+  pub levels_untaken : {A : Type 0} {n : ℕ} {f : Refusal} → n ≡ level_of (word_of h) → level ≤ n → n ≤ k → h.step ≡ Err f → A
   levels_untaken {n = n} w a z e = let x = c.most in let u = level_of_lem n b (omega (arith, lo, a)) (omega (arith, x, z)) in never_untaken (signs_of n) u.words (on_level (word_of h) n (omega (arith, lo, a)) (sym w)) e
 
   -- a sign of level n stands there
@@ -122,24 +121,24 @@ module _ (s : List ℕ) (b : Bool) (p : Limits) (level : ℕ) (lo : 1 ≤ level)
 
     -- what is joined with what stands behind it
     module _ {r : Read} {t₂ : List ℕ} (u : Answers (the s (counts p) (LEVEL (n + 1) b) h' t) 1 r t₂) {x : ℕ} (y : x ≡ word_of h) {r₁ : Read} {t₃ : List ℕ} (ρ : r₁ ≡ joined_read m x r) (τ : t₃ ≡ joined_table m x i.rows r t₂) where
-      pub levels_fails : {e : Refusal} → r₁ ≡ Refused e → Answers (the s d (LEVEL level b) i t₀) 1 r₁ t₃
+      pub levels_fails : {e : Refusal} → r₁ ≡ Err e → Answers (the s d (LEVEL level b) i t₀) 1 r₁ t₃
       unfolding joined_read joined_table
       levels_fails {e} f = go r refl
         where
           go : (v : Read) → r ≡ v → Answers (the s d (LEVEL level b) i t₀) 1 r₁ t₃
-          go (Done x' z') j = not_both (ρ ∙ ap (joined_read m x) j) f
-          go (Refused x') j =
+          go (Ok (x', z')) j = not_both (ρ ∙ ap (joined_read m x) j) f
+          go (Err x') j =
               let k₁ : r₁ ≡ r = ρ ∙ ap (joined_read m x) j ∙ sym j in
               let k₂ : t₃ ≡ t₂ = τ ∙ ap (λ (v : Read). joined_table m x i.rows v t₂) j in
               subst (λ (v : Read). Answers (the s d (LEVEL level b) i t₀) 1 v t₃) (sym k₁) (subst (λ (v : List ℕ). Answers (the s d (LEVEL level b) i t₀) 1 r v) (sym k₂) (refused_down s b p d i t₀ g q n level lo a (let v = levels_few.1 in omega (arith, v)) (binop_fails s b n (level_of_lem n b levels_few.0 levels_few.1) there sign o u j) j))
 
-      module _ {x' : Node} {z' : Here} (f : r₁ ≡ Done x' z') where
+      module _ {x' : Node} {z' : Here} (f : r₁ ≡ Ok (x', z')) where
         -- the right side was read
         pub record Right : Type 0 where
           pub node : Node
           pub behind : Here
-          pub read : r ≡ Done node behind
-          pub row : r₁ ≡ Done (node_of (detail_row kinds.BINARY m node (word_of h))) (later behind)
+          pub read : r ≡ Ok (node, behind)
+          pub row : r₁ ≡ Ok (node_of (detail_row kinds.BINARY m node (word_of h)), later behind)
           pub stored : t₃ ≡ put_over t₂ behind (detail_row kinds.BINARY m node (word_of h)) i.rows
 
         right : Right
@@ -147,8 +146,8 @@ module _ (s : List ℕ) (b : Bool) (p : Limits) (level : ℕ) (lo : 1 ≤ level)
         right = go r refl
           where
             go : (v : Read) → r ≡ v → Right
-            go (Done m₁ h₁) j = record { node = m₁; behind = h₁; read = j; row = ρ ∙ ap (joined_read m x) j ∙ ap (λ (v : ℕ). Done (node_of (detail_row kinds.BINARY m m₁ v)) (later h₁)) y; stored = τ ∙ ap (λ (v : Read). joined_table m x i.rows v t₂) j ∙ ap (λ (v : ℕ). put_over t₂ h₁ (detail_row kinds.BINARY m m₁ v) i.rows) y }
-            go (Refused e) j = not_both f (ρ ∙ ap (joined_read m x) j)
+            go (Ok (m₁, h₁)) j = record { node = m₁; behind = h₁; read = j; row = ρ ∙ ap (joined_read m x) j ∙ ap (λ (v : ℕ). Ok (node_of (detail_row kinds.BINARY m m₁ v), later h₁)) y; stored = τ ∙ ap (λ (v : Read). joined_table m x i.rows v t₂) j ∙ ap (λ (v : ℕ). put_over t₂ h₁ (detail_row kinds.BINARY m m₁ v) i.rows) y }
+            go (Err e) j = not_both f (ρ ∙ ap (joined_read m x) j)
 
         pub levels_less : (next_of h < next_of z') × (next_of h < 65537)
         levels_less = binop_less s b n (level_of_lem n b levels_few.0 levels_few.1) there sign o u right.read right.row right.stored f
@@ -180,7 +179,7 @@ pub record Chained (s : List ℕ) (b : Bool) (p : Limits) (level since : ℕ) (m
 pub chained_begins : {s : List ℕ} {b : Bool} {p : Limits} (level : ℕ) {since : ℕ} {m : Node} {h : Here} {t : List ℕ} → level ≤ 5 → Chained s b p level since m h t 5 m h t
 chained_begins level hi = record { reached = λ d i t' g w q j. record { most = omega arith; chain = λ x. j; past = λ x. absurd (omega (arith, x, hi)) } }
 
-pub chained_again : (s : List ℕ) (b : Bool) (p : Limits) (level : ℕ) → 1 ≤ level → level ≤ 5 → {since : ℕ} {m₀ : Node} {h₀ : Here} {t₀ : List ℕ} {k : ℕ} {m : Node} {h : Here} {t : List ℕ} → Chained s b p level since m₀ h₀ t₀ k m h t → {n : ℕ} → n ≡ level_of (word_of h) → level ≤ n → n ≤ k → {h' : Here} → h' ≡ passed s h → {r : Read} {t₂ : List ℕ} → Answers (the s (counts p) (LEVEL (n + 1) b) h' t) 1 r t₂ → {x : ℕ} → x ≡ word_of h → {r₁ : Read} {t₃ : List ℕ} → r₁ ≡ joined_read m x r → t₃ ≡ joined_table m x since r t₂ → {x' : Node} {z' : Here} → r₁ ≡ Done x' z' → {j : ℕ} → j ≡ looser_than n → Chained s b p level since m₀ h₀ t₀ j x' z' t₃
+pub chained_again : (s : List ℕ) (b : Bool) (p : Limits) (level : ℕ) → 1 ≤ level → level ≤ 5 → {since : ℕ} {m₀ : Node} {h₀ : Here} {t₀ : List ℕ} {k : ℕ} {m : Node} {h : Here} {t : List ℕ} → Chained s b p level since m₀ h₀ t₀ k m h t → {n : ℕ} → n ≡ level_of (word_of h) → level ≤ n → n ≤ k → {h' : Here} → h' ≡ passed s h → {r : Read} {t₂ : List ℕ} → Answers (the s (counts p) (LEVEL (n + 1) b) h' t) 1 r t₂ → {x : ℕ} → x ≡ word_of h → {r₁ : Read} {t₃ : List ℕ} → r₁ ≡ joined_read m x r → t₃ ≡ joined_table m x since r t₂ → {x' : Node} {z' : Here} → r₁ ≡ Ok (x', z') → {j : ℕ} → j ≡ looser_than n → Chained s b p level since m₀ h₀ t₀ j x' z' t₃
 chained_again s b p level lo hi {since} {m₀} {h₀} {t₀} {m = m} c w a z o {r = r} {t₂ = t₂} u {x = x} y {t₃ = t₃} ρ τ {x'} {z'} f {j} e = subst (λ (v : ℕ). Chained s b p level since m₀ h₀ t₀ v x' z' t₃) (sym e) (record { reached = λ d i t' g j q v. levels_again s b p level lo hi g q (c.reached d i t' g j q v) w a z o u y ρ (τ ∙ ap (λ (n : ℕ). joined_table m x n r t₂) (sym j)) f })
 
 -- the phrase that is read, from its first factor on
@@ -188,14 +187,14 @@ module _ (s : List ℕ) (b : Bool) (l p : Limits) (level : ℕ) (lo : 1 ≤ leve
   pub behind_level : after plain (counts l) ≡ counts p
   behind_level = counts_plain l ∙ ap counts (sym v)
 
-  pub levels_refused : {e : Refusal} → r₀ ≡ Refused e → Answers (the s (counts l) (LEVEL level b) i t₀) 1 r₀ t
+  pub levels_refused : {e : Refusal} → r₀ ≡ Err e → Answers (the s (counts l) (LEVEL level b) i t₀) 1 r₀ t
   levels_refused e = refused_down s b p (counts l) i t₀ g behind_level 6 level lo (omega (arith, hi)) (omega arith) u₀ e
 
-  module _ {m₀ : Node} {h₀ : Here} (e₀ : r₀ ≡ Done m₀ h₀) where
+  module _ {m₀ : Node} {h₀ : Here} (e₀ : r₀ ≡ Ok (m₀, h₀)) where
     start : Joins (the s (counts l) (LEVEL 5 b) i t₀) p (MORE 5 b) m₀ h₀ t
     start = binop_begins s b 5 (level_of_lem 5 b (omega arith) (omega arith)) g u₀ p e₀ behind_level
 
-    pub levels_alone : {r : Read} → level_of (word_of h₀) < level → r ≡ Done m₀ h₀ → Answers (the s (counts l) (LEVEL level b) i t₀) 1 r t
+    pub levels_alone : {r : Read} → level_of (word_of h₀) < level → r ≡ Ok (m₀, h₀) → Answers (the s (counts l) (LEVEL level b) i t₀) 1 r t
     levels_alone w e = binop_ends s b level (level_of_lem level b lo hi) (lowered s b p (counts l) i t₀ g behind_level 5 level lo hi (omega arith) (λ x y z f. omega (arith, w, y, f)) start) (λ f. omega (arith, w, f)) e
 
     pub levels_now : {k : ℕ} {m : Node} {h : Here} {t₁ : List ℕ} → Chained s b p level i.rows m₀ h₀ t k m h t₁ → Reached s b p level (counts l) i t₀ k m h t₁

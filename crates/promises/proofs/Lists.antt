@@ -1,4 +1,5 @@
 -- Lists: items with commas between them, in brackets. One law for each step of a list's reader, whatever its items are.
+use Rattle.std.specs.Prelude.{Ok, Err}
 use mathlib.Core.Path.{◌≡◌, refl, sym, ap, subst, ◌∙◌}
 use mathlib.Core.List.{List, [], ◌∷◌}
 use mathlib.Core.Bool.{Bool, true, false, cond}
@@ -19,8 +20,7 @@ use Rattle.grammar.proofs.Summary.{or_word}
 use Rattle.parser.specs.declared.Here.{Here}
 use Rattle.parser.specs.declared.Limits.{Limits}
 use Rattle.parser.specs.declared.Node.{Node}
-use Rattle.parser.specs.declared.Read.{Read}
-use Rattle.parser.specs.declared.Read.TheVariants.{Done, Refused}
+use Rattle.parser.specs.Results.{Read}
 use Rattle.parser.specs.Places.{word_of, end_of, next_of, passed, unused, list_node, opening, closing, took_by}
 use Rattle.parser.specs.Counted.{counts, opened}
 use Rattle.parser.specs.Going.{Stands, Tally, bare, lone, many, with_word, Phrase, Going, Stopped, Answers}
@@ -35,15 +35,15 @@ use Rattle.promises.proofs.Partly.{partly, partly_stops}
 use Rattle.promises.proofs.Answered.{further, of_text, partly_as}
 
 -- a bracket that closes is there, or not
-closing_either : (s : List ℕ) (h : Here) (w b c : ℕ) → T (lexed (w ∷ [])) → ((word_of h ≡ w) × (closing s h w b c ≡ Done (list_node h b c) (passed s h))) ⊎ ((word_of h ≢ w) × (closing s h w b c ≡ unused h))
+closing_either : (s : List ℕ) (h : Here) (w b c : ℕ) → T (lexed (w ∷ [])) → ((word_of h ≡ w) × (closing s h w b c ≡ Ok (list_node h b c, passed s h))) ⊎ ((word_of h ≢ w) × (closing s h w b c ≡ unused h))
 unfolding closing
 closing_either s h w b c l = go (eqb (word_of h) w) refl
   where
     no : eqb (word_of h) w ≡ false → word_of h ≢ w
     no f g = subst T (ap (λ (x : ℕ). eqb (word_of h) x) g ∙ f) (eqb_refl (word_of h))
 
-    go : (q : Bool) → eqb (word_of h) w ≡ q → ((word_of h ≡ w) × (cond q (took_by h.step (Done (list_node h b c) (passed s h)) (unused h)) (unused h) ≡ Done (list_node h b c) (passed s h))) ⊎ ((word_of h ≢ w) × (cond q (took_by h.step (Done (list_node h b c) (passed s h)) (unused h)) (unused h) ≡ unused h))
-    go true f = let e = eqb→eq (word_of h) w (subst T (sym f) tt) in inl (e, is_taken h.step (w ∷ []) l (is_word e) (Done (list_node h b c) (passed s h)) (unused h))
+    go : (q : Bool) → eqb (word_of h) w ≡ q → ((word_of h ≡ w) × (cond q (took_by h.step (Ok (list_node h b c, passed s h)) (unused h)) (unused h) ≡ Ok (list_node h b c, passed s h))) ⊎ ((word_of h ≢ w) × (cond q (took_by h.step (Ok (list_node h b c, passed s h)) (unused h)) (unused h) ≡ unused h))
+    go true f = let e = eqb→eq (word_of h) w (subst T (sym f) tt) in inl (e, is_taken h.step (w ∷ []) l (is_word e) (Ok (list_node h b c, passed s h)) (unused h))
     go false f = inr (no f, refl)
 
 -- behind a list's brackets
@@ -55,7 +55,7 @@ or_settled none o j = refl
 or_settled (some v) o j = refl
 
 -- behind a bracket that opens
-pub opened_on : {s : List ℕ} {i : Here} {r : Read} {m : Node} {z : Here} (o n : ℕ) → T (solid (o ∷ [])) → Stands s i → r ≡ opening s i o n → r ≡ Done m z → Stands s z × (next_of i < next_of z) × (z.rows ≡ i.rows)
+pub opened_on : {s : List ℕ} {i : Here} {r : Read} {m : Node} {z : Here} (o n : ℕ) → T (solid (o ∷ [])) → Stands s i → r ≡ opening s i o n → r ≡ Ok (m, z) → Stands s z × (next_of i < next_of z) × (z.rows ≡ i.rows)
 opened_on {s} {i} o n w g u q = let k = opening_done s i o n u q in past_word (o ∷ []) g w (is_word k.0) k.2.here
 
 -- limits of no list, where any will do
@@ -109,7 +109,7 @@ module _ {ITEM LIST MORE : ℕ} {firsts : List ℕ} (p : Lists ITEM LIST MORE fi
     Over = Spans b n x (λ y. Going f (at d ss ∷ ks) h t y v k)
 
   module _ {f : Phrase} {d : Counts} {ss : List Symbol} {ks : List Left} {b n : ℕ} {x : Option ℕ} {v k : ℕ} {h : Here} {t : List ℕ} where
-    pub reads_item : {j : ℕ} {r : Read} {t' : List ℕ} {m : Node} {z : Here} → Listing f d ss ks b n x v k h t → T (one_of (word_of h) firsts) → Answers (next_phrase f d ITEM h t) j r t' → r ≡ Done m z → Itemed f d ss ks b (n + 1) x v k z t'
+    pub reads_item : {j : ℕ} {r : Read} {t' : List ℕ} {m : Node} {z : Here} → Listing f d ss ks b n x v k h t → T (one_of (word_of h) firsts) → Answers (next_phrase f d ITEM h t) j r t' → r ≡ Ok (m, z) → Itemed f d ss ks b (n + 1) x v k z t'
     unfolding inside
     reads_item {m = m} g o u e = record {
       end = m.end;
@@ -121,7 +121,7 @@ module _ {ITEM LIST MORE : ℕ} {firsts : List ℕ} (p : Lists ITEM LIST MORE fi
       ];
     }
 
-    pub item_stops : {j : ℕ} {r : Read} {t' : List ℕ} {e : Refusal} → Listing f d ss ks b n x v k h t → T (one_of (word_of h) firsts) → Answers (next_phrase f d ITEM h t) j r t' → r ≡ Refused e → Stopped f e t'
+    pub item_stops : {j : ℕ} {r : Read} {t' : List ℕ} {e : Refusal} → Listing f d ss ks b n x v k h t → T (one_of (word_of h) firsts) → Answers (next_phrase f d ITEM h t) j r t' → r ≡ Err e → Stopped f e t'
     unfolding inside
     item_stops g o u e = elim g.going [
       | inl q ↦ refuses_in (into_on p.on p.list_rest o q) refl (stopped_of u e)
@@ -180,7 +180,7 @@ module _ {ITEM LIST MORE : ℕ} {firsts : List ℕ} (p : Lists ITEM LIST MORE fi
 
   module _ {s : List ℕ} {l : Limits} {h₀ : Here} {t₀ : List ℕ} {c₀ : ℕ} {h : Here} {t : List ℕ} {c : ℕ} (w : Loops s l h₀ t₀ c₀ h t c) where
     -- one item more, and its comma
-    pub loop_more : {j : ℕ} {r : Read} {t' : List ℕ} {m : Node} {z z' : Here} → T (one_of (word_of h) firsts) → Answers (the s (counts l) ITEM h t) j r t' → r ≡ Done m z → word_of z ≡ comma → z' ≡ passed s z → Loops s l h₀ t₀ c₀ z' t' (c + 1)
+    pub loop_more : {j : ℕ} {r : Read} {t' : List ℕ} {m : Node} {z z' : Here} → T (one_of (word_of h) firsts) → Answers (the s (counts l) ITEM h t) j r t' → r ≡ Ok (m, z) → word_of z ≡ comma → z' ≡ passed s z → Loops s l h₀ t₀ c₀ z' t' (c + 1)
     loop_more {t' = t'} {z = z} {z'} o u e m q =
         let y = further u e in
         let g = past_word (comma ∷ []) y.stands tt (is_word m) q in
@@ -201,7 +201,7 @@ module _ {ITEM LIST MORE : ℕ} {firsts : List ℕ} (p : Lists ITEM LIST MORE fi
         nested : (n c : ℕ) → n + c + 1 ≡ n + (c + 1)
         nested n c = omega arith
 
-    pub loop_falls : {j : ℕ} {r : Read} {t' : List ℕ} {m : Node} {z z' : Here} → Answers (the s (counts l) ITEM h t) j r t' → r ≡ Done m z → word_of z ≡ comma → z' ≡ passed s z → length s + 1 - next_of z' < length s + 1 - next_of h
+    pub loop_falls : {j : ℕ} {r : Read} {t' : List ℕ} {m : Node} {z z' : Here} → Answers (the s (counts l) ITEM h t) j r t' → r ≡ Ok (m, z) → word_of z ≡ comma → z' ≡ passed s z → length s + 1 - next_of z' < length s + 1 - next_of h
     loop_falls u e m q =
         let y = further u e in
         let g = past_word (comma ∷ []) y.stands tt (is_word m) q in
@@ -224,11 +224,11 @@ module _ {ITEM LIST MORE : ℕ} {firsts : List ℕ} (p : Lists ITEM LIST MORE fi
     entered : (f : Phrase) (d : Counts) (ss : List Symbol) (ks : List Left) (b e n : ℕ) (x : Option ℕ) (v k : ℕ) → f.text ≡ s → d ≡ counts l → after plain d ≡ d → Going f (at d (a LIST ∷ ss) ∷ ks) h₀ t₀ (many b e n x) v k → Listing f d ss ks b (n + c) x v k h t
     entered f d ss ks b e n x v k i j q g = w.goes f d ss ks b n x v k i j q (record { end = e; sign = x; settled = λ z. refl; going = inl (alone (subst (λ (y : ℕ). Going f (at d (a LIST ∷ ss) ∷ ks) h₀ t₀ (many b e y x) v k) (omega arith) g)) })
 
-    pub loop_refused : (o begin : ℕ) {j : ℕ} {r : Read} {t' : List ℕ} {e : Refusal} → T (one_of (word_of h) firsts) → Answers (the s (counts l) ITEM h t) j r t' → r ≡ Refused e → Finishes s l begin o h₀ t₀ r t'
+    pub loop_refused : (o begin : ℕ) {j : ℕ} {r : Read} {t' : List ℕ} {e : Refusal} → T (one_of (word_of h) firsts) → Answers (the s (counts l) ITEM h t) j r t' → r ≡ Err e → Finishes s l begin o h₀ t₀ r t'
     loop_refused o begin m u q = λ f d ss ks b e n x v k i j z y g. partly_stops q (item_stops (entered f d (closes o ∷ ss) ks b e n x v k i j z g) m (of_text f i j u) q)
 
     module _ (o begin : ℕ) (z : T (lexed (o ∷ []))) where
-      pub loop_ends : {j : ℕ} {r r' : Read} {t' : List ℕ} {m : Node} {h' : Here} → T (one_of (word_of h) firsts) → Answers (the s (counts l) ITEM h t) j r t' → r ≡ Done m h' → (word_of h' ≡ comma → ⊥) → r' ≡ closing s h' o begin (c + 1) → Finishes s l begin o h₀ t₀ r' t'
+      pub loop_ends : {j : ℕ} {r r' : Read} {t' : List ℕ} {m : Node} {h' : Here} → T (one_of (word_of h) firsts) → Answers (the s (counts l) ITEM h t) j r t' → r ≡ Ok (m, h') → (word_of h' ≡ comma → ⊥) → r' ≡ closing s h' o begin (c + 1) → Finishes s l begin o h₀ t₀ r' t'
       loop_ends {t' = t'} {h' = h'} m u q p r = λ f d ss ks b e n x v k i j y a g. closes_list n o begin (c + 1) z a (no_comma (subst (λ (q : ℕ). Itemed f d (closes o ∷ ss) ks b q x v k h' t') (omega arith) (reads_item (entered f d (closes o ∷ ss) ks b e n x v k i j y g) m (of_text f i j u) q)) p) (r ∙ ap (λ (s : List ℕ). closing s h' o begin (c + 1)) (sym i))
 
       pub loop_closes : {r : Read} → (T (one_of (word_of h) firsts) → ⊥) → r ≡ closing s h o begin c → Finishes s l begin o h₀ t₀ r t
@@ -236,10 +236,10 @@ module _ {ITEM LIST MORE : ℕ} {firsts : List ℕ} (p : Lists ITEM LIST MORE fi
 
   -- the bracket that opens it
   module _ {s : List ℕ} {i : Here} {t₀ : List ℕ} {l : Limits} {r₀ : Read} (o c : ℕ) (w : T (lexed (o ∷ []))) (u : r₀ ≡ opening s i o l.brackets) where
-    pub list_unopened : {e : Refusal} → r₀ ≡ Refused e → Listed s i t₀ l o LIST c r₀ t₀
+    pub list_unopened : {e : Refusal} → r₀ ≡ Err e → Listed s i t₀ l o LIST c r₀ t₀
     list_unopened q = λ f d ss ks y v k e z g. partly_stops q (opens_off o l g w z (u ∙ ap (λ (s : List ℕ). opening s i o l.brackets) (sym e)) q)
 
-    pub list_opened : {m : Node} {h₀ : Here} {l' : Limits} {r : Read} {t' : List ℕ} → r₀ ≡ Done m h₀ → l' ≡ opened l → Finishes s l' m.start c h₀ t₀ r t' → Listed s i t₀ l o LIST c r t'
+    pub list_opened : {m : Node} {h₀ : Here} {l' : Limits} {r : Read} {t' : List ℕ} → r₀ ≡ Ok (m, h₀) → l' ≡ opened l → Finishes s l' m.start c h₀ t₀ r t' → Listed s i t₀ l o LIST c r t'
     list_opened {m} {h₀} {l'} {r} {t'} q p z = λ f d ss ks y v k e al g. go f d ss ks y v k e (alike_opened l al (opening_done s i o l.brackets u q).1 ∙ ap counts (sym p)) (opens_on o l g (lexed_solid (o ∷ []) w) al (u ∙ ap (λ (s : List ℕ). opening s i o l.brackets) (sym e)) q)
       where
         go : (f : Phrase) (d : Counts) (ss : List Symbol) (ks : List Left) (y : Tally) (v k : ℕ) → f.text ≡ s → after opens_bracket d ≡ counts l' → Going f (at (after opens_bracket d) (a LIST ∷ closes c ∷ ss) ∷ ks) h₀ t₀ (with_word y m.start m.end o) v (k + 4) → Partly f r t' (λ m h'. Going f (at (after plain d) ss ∷ ks) h' t' (listed y o m) v (k + 4))

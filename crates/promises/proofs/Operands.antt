@@ -1,4 +1,5 @@
 -- Operands: an atom and what follows it. One law for each way that a reader of one of them ends.
+use Rattle.std.specs.Prelude.{Ok, Err}
 use mathlib.Core.Path.{◌≡◌, refl, sym, ap, subst, ◌∙◌}
 use mathlib.Core.List.{List, [], ◌∷◌, ◌++◌}
 use mathlib.Core.Bool.{Bool, true, false}
@@ -27,8 +28,7 @@ use Rattle.answers.specs.Source.{source}
 use Rattle.parser.specs.declared.Here.{Here}
 use Rattle.parser.specs.declared.Limits.{Limits}
 use Rattle.parser.specs.declared.Node.{Node}
-use Rattle.parser.specs.declared.Read.{Read}
-use Rattle.parser.specs.declared.Read.TheVariants.{Done, Refused}
+use Rattle.parser.specs.Results.{Read}
 use Rattle.parser.specs.Places.{word_of, end_of, next_of, passed, later, unused_at, unused, node_of, put_over, plain_row, expected, opening, closing}
 use Rattle.parser.specs.Counted.{counts, opened}
 use Rattle.parser.specs.Counted as counted
@@ -61,8 +61,8 @@ module _ (s : List ℕ) (l : Limits) (b : Bool) (h : Here) (t : List ℕ) (g : S
   atom_read {n} {w} {r} {t'} p q o u = record { is = go r u.is }
     where
       go : (r : Read) → Either (the s (counts l) n h t) 1 r t' → PartlyIs Operand r t' (λ m h'. Postfixed Operand l b m h' t')
-      go (Done m z) x = record { at_counts = counts l; alike = alike_counts l; going = inl (reads_one (begins_on p g o) q refl x) }
-      go (Refused e) x = refuses_in (begins_on p g o) refl x
+      go (Ok (m, z)) x = record { at_counts = counts l; alike = alike_counts l; going = inl (reads_one (begins_on p g o) q refl x) }
+      go (Err e) x = refuses_in (begins_on p g o) refl x
 
   pub atom_unused : {r : Read} → word_of h ≢ 52 → word_of h ≢ 53 → word_of h ≢ 42 → word_of h ≢ 40 → word_of h ≢ 90 → (T (one_of (word_of h) literals) → ⊥) → (T (one_of (word_of h) path_items) → ⊥) → (T (one_of (word_of h) four_words) → ⊥) → r ≡ unused h → Atom s h t l b r t
   atom_unused bang minus paren brace quote lit path four e = partly_stops e (stopped_of (none_fits {j = 1} (operand_off b) g none_of_them e) e)
@@ -93,28 +93,28 @@ module _ (s : List ℕ) (l : Limits) (b : Bool) (h : Here) (t : List ℕ) (g : S
 
   -- a path, perhaps with a record behind it
   module _ {r : Read} {t' : List ℕ} (o : T (one_of (word_of h) path_items)) (u : Anyhow s PATH h t 2 r t') where
-    pub path_stops : {e : Refusal} → r ≡ Refused e → Atom s h t l b r t'
+    pub path_stops : {e : Refusal} → r ≡ Err e → Atom s h t l b r t'
     unfolding inside
     path_stops e = relays_partly (begins_on (operand_path_on b) g o) refl (u (counts l)) e
 
-    module _ {m : Node} {z : Here} (e : r ≡ Done m z) where
+    module _ {m : Node} {z : Here} (e : r ≡ Ok (m, z)) where
       behind_path : Going Operand (at (counts l) (a (AFTER_PATH b) ∷ []) ∷ []) z t' (lone m.kind m.start m.end) 0 2
       unfolding inside
       behind_path = reads_one (begins_on (operand_path_on b) g o) refl refl (whole_of (u (counts l)) e)
 
-      pub path_alone : {q : Read} → undotted r → (T b → word_of z ≢ open_brace) → q ≡ Done m z → Atom s h t l b q t'
+      pub path_alone : {q : Read} → undotted r → (T b → word_of z ≢ open_brace) → q ≡ Ok (m, z) → Atom s h t l b q t'
       path_alone n k i = partly i (record { at_counts = counts l; alike = alike_counts l; going = inr (fewer 1 (omega arith) behind_path, subst undotted e n, k) })
 
 -- A path and a record behind it, where one may stand.
-module _ (s : List ℕ) (l : Limits) (h : Here) (t : List ℕ) (g : Stands s h) {r : Read} {t' : List ℕ} (o : T (one_of (word_of h) path_items)) (u : Anyhow s PATH h t 2 r t') {m : Node} {z : Here} (e : r ≡ Done m z) (w : word_of z ≡ open_brace) {q : Read} (p : q ≡ opening s z 40 l.brackets) where
+module _ (s : List ℕ) (l : Limits) (h : Here) (t : List ℕ) (g : Stands s h) {r : Read} {t' : List ℕ} (o : T (one_of (word_of h) path_items)) (u : Anyhow s PATH h t 2 r t') {m : Node} {z : Here} (e : r ≡ Ok (m, z)) (w : word_of z ≡ open_brace) {q : Read} (p : q ≡ opening s z 40 l.brackets) where
   before_record : Going (Operand s l true h t g) (at (counts l) (opens open_brace ∷ a FIELDS ∷ closes close_brace ∷ part ∷ row kinds.RECORD ∷ a (POSTFIX true) ∷ []) ∷ at (counts l) [] ∷ []) z t' (lone m.kind m.start m.end) 0 2
   unfolding inside
   before_record = into_on after_path_record_on (rest_after_path true) (is_word w) (behind_path s l true h t g o u e)
 
-  pub record_shut : {x : Refusal} → q ≡ Refused x → Atom s h t l true q t'
+  pub record_shut : {x : Refusal} → q ≡ Err x → Atom s h t l true q t'
   record_shut i = partly_stops i (opens_off 40 l before_record tt (alike_counts l) p i)
 
-  module _ {x : Node} {y : Here} (i : q ≡ Done x y) where
+  module _ {x : Node} {y : Here} (i : q ≡ Ok (x, y)) where
     pub record_read : {l' : Limits} {r' : Read} {t'' : List ℕ} → l' ≡ opened l → Fielded s y t' l' m.start 1 h.rows r' t'' → Atom s h t l true r' t''
     unfolding after counts
     record_read j v = partly_as (v (Operand s l true h t g) (after opens_bracket (counts l)) (a (POSTFIX true) ∷ []) (at (counts l) [] ∷ []) x.end 6 (some 40) refl refl (counts_opened l (opening_done s z 40 l.brackets p i).1 ∙ ap counts (sym j)) (inl (opens_on 40 l before_record tt (alike_counts l) p i))) (λ n z' k. record { at_counts = after closes_bracket (after opens_bracket (counts l)); alike = record { brackets = refl; chain = refl; heads = refl }; going = inl (fewer 1 (omega arith) (last k)) })
@@ -179,11 +179,11 @@ module _ (s : List ℕ) (m : Node) (h : Here) (t : List ℕ) (since : ℕ) (g : 
     call_list : (f : Phrase) (b : Bool) → f.text ≡ s → (p : Postfixed f l b m h t) → Partly f r t' (λ x z. Going f (at (after plain p.at_counts) (row kinds.CALL ∷ a (POSTFIX b) ∷ []) ∷ at p.at_counts [] ∷ []) z t' (many m.start x.end (x.children + 1) (some 42)) 0 5)
     call_list f b i p = u.0 f p.at_counts (row kinds.CALL ∷ a (POSTFIX b) ∷ []) (at p.at_counts [] ∷ []) (lone m.kind m.start m.end) 0 1 i p.alike (before_call p o)
 
-    pub call_stops : {e : Refusal} → r ≡ Refused e → Behind s m h t l since r t' × onward h r
+    pub call_stops : {e : Refusal} → r ≡ Err e → Behind s m h t l since r t' × onward h r
     call_stops e = (λ f b i n p. stops_partly (call_list f b i p) e, u.1)
 
-    module _ {x : Node} {z : Here} (e : r ≡ Done x z) where
-      pub called : {q : Read} {t'' : List ℕ} {y : Row} → y ≡ plain_row kinds.CALL m.start x.end (x.children + 1) → q ≡ Done (node_of y) (later z) → t'' ≡ put_over t' z y since → Behind s m h t l since q t'' × onward h q
+    module _ {x : Node} {z : Here} (e : r ≡ Ok (x, z)) where
+      pub called : {q : Read} {t'' : List ℕ} {y : Row} → y ≡ plain_row kinds.CALL m.start x.end (x.children + 1) → q ≡ Ok (node_of y, later z) → t'' ≡ put_over t' z y since → Behind s m h t l since q t'' × onward h q
       called y d p = (λ f b i n v. partly d (record { at_counts = after plain v.at_counts; alike = alike_plain l v.alike; going = inl (fewer {k = 4} 1 (omega arith) (last (writes {k = 4} (partly_of (call_list f b i v) e) refl refl y refl (put_since _ z _ n p)))) }), subst (onward h) (sym d) (subst (onward h) e u.1))
 
   module _ (o : word_of h ≡ 49) {h' : Here} (c : h' ≡ passed s h) where
@@ -192,11 +192,11 @@ module _ (s : List ℕ) (m : Node) (h : Here) (t : List ℕ) (since : ℕ) (g : 
       unfolding kept
       before_name f b l i p = takes (before_access p o) tt (is_word o) tt (c ∙ ap (λ (x : List ℕ). passed x h) (sym i))
 
-      pub access_stops : {e : Refusal} → r ≡ Refused e → AnyBehind s m h t since r t' × onward h r
+      pub access_stops : {e : Refusal} → r ≡ Err e → AnyBehind s m h t since r t' × onward h r
       unfolding inside
       access_stops e = (λ l f b i n p. relays_partly (before_name f b l i p) refl (of_text f i refl (u (after plain p.at_counts))) e, subst (onward h) (sym e) tt)
 
-      pub accessed : {x : Node} {z : Here} → r ≡ Done x z → {q : Read} {t'' : List ℕ} {y : Row} → y ≡ plain_row kinds.ACCESS m.start x.end 2 → q ≡ Done (node_of y) (later z) → t'' ≡ put_over t' z y since → AnyBehind s m h t since q t'' × onward h q
+      pub accessed : {x : Node} {z : Here} → r ≡ Ok (x, z) → {q : Read} {t'' : List ℕ} {y : Row} → y ≡ plain_row kinds.ACCESS m.start x.end 2 → q ≡ Ok (node_of y, later z) → t'' ≡ put_over t' z y since → AnyBehind s m h t since q t'' × onward h q
       unfolding inside
       accessed {x} {z} e {q} {t''} y d p = (λ l f b i n v. partly d (record { at_counts = after plain v.at_counts; alike = alike_plain l v.alike; going = inl (fewer {k = 7} 1 (omega arith) (last (writes {k = 7} (reads_one (before_name f b l i v) refl refl (whole_of (of_text f i refl (u (after plain v.at_counts))) e)) refl refl y refl (put_since _ z _ n p)))) }), subst (onward h) (sym d) beyond)
         where
@@ -215,7 +215,7 @@ last_sign x m a b = elim (of_two x (51 ∷ []) (42 ∷ 49 ∷ []) m) [
 ]
 
 -- An operand's atom was read, and signs behind it.
-pub access_ends : {f : Phrase} {l : Limits} {b : Bool} {m : Node} {h : Here} {t : List ℕ} {r : Read} → Postfixed f l b m h t → (T (one_of (word_of h) postfix_signs) → ⊥) → r ≡ Done m h → Answers f 1 r t
+pub access_ends : {f : Phrase} {l : Limits} {b : Bool} {m : Node} {h : Here} {t : List ℕ} {r : Read} → Postfixed f l b m h t → (T (one_of (word_of h) postfix_signs) → ⊥) → r ≡ Ok (m, h) → Answers f 1 r t
 access_ends u o e = done e (ends (nothing_behind u o) refl refl refl)
 
 -- from where the loop began
@@ -226,11 +226,11 @@ Accesses s l since m₀ h₀ t₀ m h t = (f : Phrase) (b : Bool) → f.text ≡
 pub operand_stands : {f : Phrase} {l : Limits} {b : Bool} {m : Node} {h : Here} {t : List ℕ} → Postfixed f l b m h t → Stands f.text h × (next_of f.from ≤ next_of h)
 operand_stands u = elim u.going [ inl g ↦ (g.stands, (few_rows g).4) | inr g ↦ (g.0.stands, (few_rows g.0).4) ]
 
-pub access_on : {f : Phrase} {l : Limits} {b : Bool} {m : Node} {h : Here} {t : List ℕ} {r : Read} {t' : List ℕ} {n : Node} {z : Here} → Postfixed f l b m h t → Behind f.text m h t l f.from.rows r t' × onward h r → r ≡ Done n z → (next_of h < next_of z) × (next_of z ≤ 65536)
+pub access_on : {f : Phrase} {l : Limits} {b : Bool} {m : Node} {h : Here} {t : List ℕ} {r : Read} {t' : List ℕ} {n : Node} {z : Here} → Postfixed f l b m h t → Behind f.text m h t l f.from.rows r t' × onward h r → r ≡ Ok (n, z) → (next_of h < next_of z) × (next_of z ≤ 65536)
 access_on {h = h} {r} u v e = (subst (onward h) e v.1, place_near (operand_stands (partly_of (v.0 _ _ refl refl u) e)).0)
 
 -- behind a bracket that opens
-pub opening_stands : (w n : ℕ) {s : List ℕ} {h : Here} {r : Read} {x : Node} {y : Here} → T (solid (w ∷ [])) → Stands s h → r ≡ opening s h w n → r ≡ Done x y → Stands s y × (next_of h < next_of y)
+pub opening_stands : (w n : ℕ) {s : List ℕ} {h : Here} {r : Read} {x : Node} {y : Here} → T (solid (w ∷ [])) → Stands s h → r ≡ opening s h w n → r ≡ Ok (x, y) → Stands s y × (next_of h < next_of y)
 opening_stands w n {s} {h} o g p i = let u = opening_done s h w n p i in let k = past_word (w ∷ []) g o (is_word u.0) u.2.here in (k.0, k.1)
 
 -- `( expr )`
@@ -238,10 +238,10 @@ module _ (s : List ℕ) (l : Limits) (h : Here) (t : List ℕ) (g : Stands s h) 
   abbrev Parens : Phrase
   Parens = the s (counts l) PARENS h t
 
-  pub parens_shut : {x : Refusal} → r ≡ Refused x → Answers Parens 1 r t
+  pub parens_shut : {x : Refusal} → r ≡ Err x → Answers Parens 1 r t
   parens_shut i = stopped i (opens_off 42 l (begins_any parens_any g) tt (alike_counts l) p i)
 
-  module _ {x : Node} {y : Here} (i : r ≡ Done x y) where
+  module _ {x : Node} {y : Here} (i : r ≡ Ok (x, y)) where
     in_parens : Going Parens (at (after opens_bracket (counts l)) (a (EXPR true) ∷ closes 43 ∷ []) ∷ []) y t (many x.start x.end 0 (some 42)) 0 4
     in_parens = opens_on 42 l (begins_any parens_any g) tt (alike_counts l) p i
 
@@ -250,14 +250,14 @@ module _ (s : List ℕ) (l : Limits) (h : Here) (t : List ℕ) (g : Stands s h) 
       unfolding inside
       inner = counts_opened l (opening_done s h 42 l.brackets p i).1 ∙ ap counts (sym j)
 
-      pub parens_stops : {e : Refusal} → q ≡ Refused e → Answers Parens 1 q t'
+      pub parens_stops : {e : Refusal} → q ≡ Err e → Answers Parens 1 q t'
       parens_stops e = relays in_parens inner u e
 
-      module _ {m : Node} {z : Here} (e : q ≡ Done m z) {k : Read} (c : k ≡ expected s z 43) where
-        pub parens_open : {e' : Refusal} → k ≡ Refused e' → Answers Parens 1 k t'
+      module _ {m : Node} {z : Here} (e : q ≡ Ok (m, z)) {k : Read} (c : k ≡ expected s z 43) where
+        pub parens_open : {e' : Refusal} → k ≡ Err e' → Answers Parens 1 k t'
         parens_open d = let w = expected_refused s z 43 tt c d in stopped d (subst (λ (x : Refusal). Stopped Parens x t') w.1 (encloses_misses (encloses in_parens refl inner (whole_of u e)) (λ m. w.0 (the_word m))))
 
-        pub parens_read : {n : Node} {z' : Here} {r' : Read} → k ≡ Done n z' → r' ≡ Done m z' → Answers Parens 1 r' t'
+        pub parens_read : {n : Node} {z' : Here} {r' : Read} → k ≡ Ok (n, z') → r' ≡ Ok (m, z') → Answers Parens 1 r' t'
         unfolding kept
         parens_read d v = let w = expected_done s z 43 c d in done v (whole_fewer 1 (omega arith) (encloses_ends (encloses_out (encloses_word (encloses in_parens refl inner (whole_of u e)) tt (is_word w.0) tt w.1.here))))
 
@@ -266,19 +266,19 @@ module _ (s : List ℕ) (l : Limits) (h : Here) (t : List ℕ) (g : Stands s h) 
   abbrev Field : Phrase
   Field = the s (counts l) FIELD h t
 
-  pub field_nameless : {e : Refusal} → r ≡ Refused e → Answers Field 1 r t₁
+  pub field_nameless : {e : Refusal} → r ≡ Err e → Answers Field 1 r t₁
   unfolding inside
   field_nameless e = relays (begins_any field_any g) refl (u (counts l)) e
 
-  module _ {m : Node} {y : Here} (e : r ≡ Done m y) {q : Read} (p : q ≡ expected s y 46) where
+  module _ {m : Node} {y : Here} (e : r ≡ Ok (m, y)) {q : Read} (p : q ≡ expected s y 46) where
     field_named : Going Field (at (counts l) (word 46 ∷ a (EXPR true) ∷ row kinds.FIELD ∷ []) ∷ []) y t₁ (lone m.kind m.start m.end) 0 3
     unfolding inside
     field_named = reads_one (begins_any field_any g) refl refl (whole_of (u (counts l)) e)
 
-    pub field_signless : {x : Refusal} → q ≡ Refused x → Answers Field 1 q t₁
+    pub field_signless : {x : Refusal} → q ≡ Err x → Answers Field 1 q t₁
     field_signless i = stopped i (misses 46 field_named tt p i)
 
-    module _ {x : Node} {z : Here} (i : q ≡ Done x z) where
+    module _ {x : Node} {z : Here} (i : q ≡ Ok (x, z)) where
       field_signed : Going Field (at (after plain (counts l)) (a (EXPR true) ∷ row kinds.FIELD ∷ []) ∷ []) z t₁ (many m.start x.end 1 (some 46)) 0 7
       field_signed = expects 46 field_named tt p i
 
@@ -290,10 +290,10 @@ module _ (s : List ℕ) (l : Limits) (h : Here) (t : List ℕ) (g : Stands s h) 
         unfolding inside
         inner_field = counts_plain l ∙ ap counts (sym j)
 
-        pub field_stops : {k : Refusal} → v ≡ Refused k → Answers Field 1 v t₂
+        pub field_stops : {k : Refusal} → v ≡ Err k → Answers Field 1 v t₂
         field_stops k = relays field_signed inner_field w k
 
-        pub field_read : {n : Node} {z' : Here} {o : Read} {t₃ : List ℕ} {ρ : Row} → v ≡ Done n z' → ρ ≡ plain_row kinds.FIELD m.start n.end 2 → o ≡ Done (node_of ρ) (later z') → t₃ ≡ put_over t₂ z' ρ h.rows → Answers Field 1 o t₃
+        pub field_read : {n : Node} {z' : Here} {o : Read} {t₃ : List ℕ} {ρ : Row} → v ≡ Ok (n, z') → ρ ≡ plain_row kinds.FIELD m.start n.end 2 → o ≡ Ok (node_of ρ, later z') → t₃ ≡ put_over t₂ z' ρ h.rows → Answers Field 1 o t₃
         field_read k ρ o b = done o (ends (fewer {k = 7} 1 (omega arith) (out (writes {k = 7} (reads_one field_signed refl inner_field (whole_of w k)) refl refl ρ refl b))) refl refl refl)
 
 -- A phrase stops at one place, for one reason.
@@ -318,10 +318,10 @@ module _ (s : List ℕ) (l : Limits) (h : Here) (t : List ℕ) (g : Stands s h) 
   abbrev Braces : Phrase
   Braces = the s (counts l) BRACES h t
 
-  pub braces_shut : {x : Refusal} → r ≡ Refused x → Answers Braces 1 r t
+  pub braces_shut : {x : Refusal} → r ≡ Err x → Answers Braces 1 r t
   braces_shut i = stopped i (opens_off 40 l (begins_any braces_any g) tt (alike_counts l) p i)
 
-  module _ {x : Node} {y : Here} (i : r ≡ Done x y) {l' : Limits} (j : l' ≡ opened l) where
+  module _ {x : Node} {y : Here} (i : r ≡ Ok (x, y)) {l' : Limits} (j : l' ≡ opened l) where
     in_braces : Going Braces (at (bracketed l) (a BRACES_INSIDE ∷ []) ∷ []) y t (many x.start x.end 0 (some 40)) 0 4
     in_braces = opens_on 40 l (begins_any braces_any g) tt (alike_counts l) p i
 
@@ -358,8 +358,8 @@ module _ (s : List ℕ) (l : Limits) (h : Here) (t : List ℕ) (g : Stands s h) 
         stops = refuses_off braces_inside_off n in_braces
 
         go : (q : Read) → PartlyIs Block q t' (λ m z. Going Block (at (after closes_bracket (bracketed l)) [] ∷ []) z t' (lone m.kind m.start m.end) 0 4) → Either Braces 1 q t'
-        go (Done m z) k = absurd (read_and_refused (ends {m = m} (out k) refl refl refl) block_stops)
-        go (Refused e) k = record { place = stops.place; why = stops.why; stops = stops.stops; says = stops.says ∙ one_refusal block_stops k; kept = k.kept }
+        go (Ok (m, z)) k = absurd (read_and_refused (ends {m = m} (out k) refl refl refl) block_stops)
+        go (Err e) k = record { place = stops.place; why = stops.why; stops = stops.stops; says = stops.says ∙ one_refusal block_stops k; kept = k.kept }
 
     pub braces_stated : {q : Read} {t' : List ℕ} → (T (one_of (word_of y) names) → ⊥) → Stated s y t l' x.start q t' → Answers Braces 1 q t'
     unfolding inside
@@ -375,14 +375,14 @@ loop_few p w o = let a = w.few in let b = w.stands.few in let k = place_near w.s
 
 -- The arguments of a call: the bracket that closes them leads on, and they are few.
 pub closed_onward : (w b c : ℕ) {s : List ℕ} (i : Here) {h : Here} (r : Read) → T (solid (w ∷ [])) → Stands s h → next_of i ≤ next_of h → c < 300000 → r ≡ closing s h w b c → onward i r × few r
-closed_onward w b c {s} i {h} (Done m z) o g n k e =
+closed_onward w b c {s} i {h} (Ok (m, z)) o g n k e =
     let u = closing_done s h w b c e refl in
     let y = (past_word (w ∷ []) g o (is_word u.0) u.2).1 in
     let x : c ≡ m.children = ap (λ (q : Node). q.children) u.1 in
     (omega (arith, n, y), omega (arith, k, x))
-closed_onward w b c i (Refused x) o g n k e = (tt, tt)
+closed_onward w b c i (Err x) o g n k e = (tt, tt)
 
-pub refused_onward : (i : Here) {r : Read} {x : Refusal} → r ≡ Refused x → onward i r × few r
+pub refused_onward : (i : Here) {r : Read} {x : Refusal} → r ≡ Err x → onward i r × few r
 refused_onward i e = (subst (onward i) (sym e) tt, subst few (sym e) tt)
 
 -- The `}` of a record, and its row.
@@ -421,10 +421,10 @@ module _ {s : List ℕ} {l : Limits} {h₀ : Here} {t₀ : List ℕ} {p : ℕ} {
         none_more = omega arith
 
   module _ {r : Read} {t' : List ℕ} (o : T (one_of (word_of h) names)) (v : Answers (the s (counts l) FIELD h t) 1 r t') where
-    pub fields_stop : {y : Refusal} → r ≡ Refused y → Fielded s h₀ t₀ l start p since r t'
+    pub fields_stop : {y : Refusal} → r ≡ Err y → Fielded s h₀ t₀ l start p since r t'
     fields_stop y = λ f d ss ks e k x i a j u. partly_stops y (item_stops fields_list (fielding f d ss ks e k x i j u) o (of_text f i j v) y)
 
-    pub fields_last : {m : Node} {z : Here} {q : Row} {r' : Read} {t'' : List ℕ} → p ≤ 1 → r ≡ Done m z → word_of z ≢ comma → q ≡ record_row start (end_of z) (c + 1) p → Closed s z t' close_brace q since r' t'' → Fielded s h₀ t₀ l start p since r' t''
+    pub fields_last : {m : Node} {z : Here} {q : Row} {r' : Read} {t'' : List ℕ} → p ≤ 1 → r ≡ Ok (m, z) → word_of z ≢ comma → q ≡ record_row start (end_of z) (c + 1) p → Closed s z t' close_brace q since r' t'' → Fielded s h₀ t₀ l start p since r' t''
     fields_last {m} {z} {q} {r'} {t''} n y b ρ a = λ f d ss ks e k x i o' j u. fields_end p n (no_comma fields_list (reads_item fields_list (fielding f d ss ks e k x i j u) o (of_text f i j v) y) b).going (ρ ∙ ap (λ (k : ℕ). record_row start (end_of z) k p) (omega arith)) o' (subst (λ (x : List ℕ). Closed x z t' close_brace q since r' t'') (sym i) a)
 
   pub fields_over : {q : Row} {r : Read} {t' : List ℕ} → p ≤ 1 → (T (one_of (word_of h) names) → ⊥) → q ≡ record_row start (end_of h) c p → Closed s h t close_brace q since r t' → Fielded s h₀ t₀ l start p since r t'

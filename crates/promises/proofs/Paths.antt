@@ -1,4 +1,5 @@
 -- A token that is a row; a path, from item to item.
+use Rattle.std.specs.Prelude.{Ok, Err}
 use mathlib.Core.Path.{◌≡◌, refl, sym, subst}
 use mathlib.Core.List.{List, [], ◌∷◌}
 use mathlib.Core.Option.{Option, none, some}
@@ -17,8 +18,7 @@ use Rattle.grammar.specs.Kinds.{PATH_ITEM, PATH, PATH_REST}
 use Rattle.grammar.proofs.Summary.{or_word}
 use Rattle.parser.specs.declared.Here.{Here}
 use Rattle.parser.specs.declared.Node.{Node}
-use Rattle.parser.specs.declared.Read.{Read}
-use Rattle.parser.specs.declared.Read.TheVariants.{Done, Refused}
+use Rattle.parser.specs.Results.{Read}
 use Rattle.parser.specs.Places.{word_of, end_of, next_of, passed, later, unused, node_of, put_over, plain_row}
 use Rattle.parser.specs.Going.{Stands, many, Phrase, Going, Answers}
 use Rattle.parser.proofs.Standing.{next_small, solid, past_word, is_word, the_word}
@@ -58,11 +58,11 @@ module _ (s : List ℕ) (i : Here) (t₀ : List ℕ) (d : Counts) where
   Path = the s d PATH i t₀
 
   module _ (g : Stands s i) {r : Read} {t : List ℕ} (u : Anyhow s PATH_ITEM i t₀ 3 r t) where
-    pub path_begins : {m : Node} {h : Here} → r ≡ Done m h → Begun Path m.start m.end 1 h t
+    pub path_begins : {m : Node} {h : Here} → r ≡ Ok (m, h) → Begun Path m.start m.end 1 h t
     unfolding inside
     path_begins e = record { counts = d; sign = none; going = as_many (alone (reads_one (begins_any path_any g) refl refl (whole_of (u d) e))) }
 
-    pub path_refused : {e : Refusal} → r ≡ Refused e → Answers Path 2 r t
+    pub path_refused : {e : Refusal} → r ≡ Err e → Answers Path 2 r t
     unfolding inside
     path_refused e = relays (begins_any path_any g) refl (u d) e
 
@@ -72,16 +72,16 @@ module _ (s : List ℕ) (i : Here) (t₀ : List ℕ) (d : Counts) where
       unfolding inside kept
       behind = takes (into_on path_rest_on refl (is_word m) b.going) tt (is_word m) tt p
 
-      pub path_more : {r : Read} {t' : List ℕ} {x : Node} {z : Here} → Anyhow s PATH_ITEM h' t 3 r t' → r ≡ Done x z → Begun Path a x.end (c + 1) z t'
+      pub path_more : {r : Read} {t' : List ℕ} {x : Node} {z : Here} → Anyhow s PATH_ITEM h' t 3 r t' → r ≡ Ok (x, z) → Begun Path a x.end (c + 1) z t'
       unfolding inside
       path_more u q = record { counts = after plain b.counts; sign = or_word b.sign (word_of h); going = fewer 3 (omega arith) (last (reads_one behind refl refl (whole_of (u (after plain b.counts)) q))) }
 
-      pub path_fails : {r : Read} {t' : List ℕ} {x : Refusal} → Anyhow s PATH_ITEM h' t 3 r t' → r ≡ Refused x → Answers Path 2 r t'
+      pub path_fails : {r : Read} {t' : List ℕ} {x : Refusal} → Anyhow s PATH_ITEM h' t 3 r t' → r ≡ Err x → Answers Path 2 r t'
       unfolding inside
       path_fails u q = relays behind refl (u (after plain b.counts)) q
 
       -- it went on, and stays within the source
-      pub path_onward : {r : Read} {t' : List ℕ} {x : Node} {z : Here} → Anyhow s PATH_ITEM h' t 3 r t' → r ≡ Done x z → (next_of h < next_of z) × (next_of z ≤ length s + 1)
+      pub path_onward : {r : Read} {t' : List ℕ} {x : Node} {z : Here} → Anyhow s PATH_ITEM h' t 3 r t' → r ≡ Ok (x, z) → (next_of h < next_of z) × (next_of z ≤ length s + 1)
       path_onward u q =
           let a = past_word (dot ∷ []) b.going.stands tt (is_word m) p in
           let k = further (u d) q in
@@ -89,7 +89,7 @@ module _ (s : List ℕ) (i : Here) (t₀ : List ℕ) (d : Counts) where
           let j = k.next in
           (omega (arith, i, j), next_small k.stands)
 
-    pub path_ends : {r : Read} {t' : List ℕ} → (word_of h ≡ 49 → ⊥) → r ≡ Done (node_of (path_row a e c)) (later h) → t' ≡ put_over t h (path_row a e c) i.rows → Answers Path 2 r t'
+    pub path_ends : {r : Read} {t' : List ℕ} → (word_of h ≡ 49 → ⊥) → r ≡ Ok (node_of (path_row a e c), later h) → t' ≡ put_over t h (path_row a e c) i.rows → Answers Path 2 r t'
     unfolding inside
     path_ends n q p = done q (ends (out (writes (out (out (into_off path_rest_off refl (λ x. n (the_word x)) b.going))) refl refl refl refl p)) refl refl refl)
 
@@ -98,8 +98,8 @@ abbrev pub Goes : List ℕ → ℕ → ℕ → ℕ → Here → List ℕ → ℕ
 Goes s a e₀ c₀ h₀ t₀ e c h t = (d : Counts) (i : Here) (t' : List ℕ) → Begun (the s d PATH i t') a e₀ c₀ h₀ t₀ → Begun (the s d PATH i t') a e c h t
 
 -- no `.` stands behind a path
-pub undotted_refused : {r : Read} {e : Refusal} → r ≡ Refused e → undotted r
+pub undotted_refused : {r : Read} {e : Refusal} → r ≡ Err e → undotted r
 undotted_refused e = subst undotted (sym e) tt
 
-pub undotted_done : {r : Read} {m : Node} {h : Here} → r ≡ Done m h → (word_of h ≡ 49 → ⊥) → undotted r
+pub undotted_done : {r : Read} {m : Node} {h : Here} → r ≡ Ok (m, h) → (word_of h ≡ 49 → ⊥) → undotted r
 undotted_done e n = subst undotted (sym e) n

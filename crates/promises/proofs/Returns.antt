@@ -1,4 +1,5 @@
 -- A row of return forms, read by a loop.
+use Rattle.std.specs.Prelude.{Ok, Err}
 use mathlib.Core.Path.{◌≡◌, refl, sym, ap, subst, ◌∙◌}
 use mathlib.Core.List.{List, [], ◌∷◌}
 use mathlib.Core.Bool.{Bool, true, false, cond}
@@ -21,8 +22,7 @@ use Rattle.grammar.specs.Rows.{place_in, detail_for}
 use Rattle.parser.specs.declared.Here.{Here}
 use Rattle.parser.specs.declared.Limits.{Limits}
 use Rattle.parser.specs.declared.Node.{Node}
-use Rattle.parser.specs.declared.Read.{Read}
-use Rattle.parser.specs.declared.Read.TheVariants.{Done, Refused}
+use Rattle.parser.specs.Results.{Read}
 use Rattle.parser.specs.Places.{word_of, next_of, later, under, node_of, put_over}
 use Rattle.parser.specs.Counted.{counts, signed, used}
 use Rattle.parser.specs.Going.{Stands, many, Phrase, Going, Answers}
@@ -44,16 +44,16 @@ Last s h t l b m detail since r t' =
     → Answers f 1 r t'
 
 module _ (l : Limits) (b : Bool) (x : Node) (j : ℕ) {since : ℕ} {s : List ℕ} {z : Here} {t : List ℕ} where
-  last_ends : {r : Read} {t' : List ℕ} → T (ends_return (word_of z) b) → r ≡ Done (node_of (return_row x.start x.end 0 j)) (later z) → t' ≡ put_over t z (return_row x.start x.end 0 j) since → Last s z t l b x j since r t'
+  last_ends : {r : Read} {t' : List ℕ} → T (ends_return (word_of z) b) → r ≡ Ok (node_of (return_row x.start x.end 0 j), later z) → t' ≡ put_over t z (return_row x.start x.end 0 j) since → Last s z t l b x j since r t'
   unfolding inside
   last_ends e o y f w q i v g = finished (out (returned_none b e g)) (omega arith) refl refl (ap (return_row x.start x.end 0) v) o (put_since _ z _ i y)
 
   module _ (n : T (ends_return (word_of z) b) → ⊥) {r : Read} {t' : List ℕ} (u : Answers (the s (counts l) (EXPR b) z t) 1 r t') where
-    last_fails : {e : Refusal} → r ≡ Refused e → Last s z t l b x j since r t'
+    last_fails : {e : Refusal} → r ≡ Err e → Last s z t l b x j since r t'
     unfolding inside
     last_fails e f w q i v g = stopped e (refuses_it q refl u (returned_some b n g) e)
 
-    last_valued : {m : Node} {h : Here} {r' : Read} {t'' : List ℕ} → r ≡ Done m h → r' ≡ Done (node_of (return_row x.start m.end 1 j)) (later h) → t'' ≡ put_over t' h (return_row x.start m.end 1 j) since → Last s z t l b x j since r' t''
+    last_valued : {m : Node} {h : Here} {r' : Read} {t'' : List ℕ} → r ≡ Ok (m, h) → r' ≡ Ok (node_of (return_row x.start m.end 1 j), later h) → t'' ≡ put_over t' h (return_row x.start m.end 1 j) since → Last s z t l b x j since r' t''
     unfolding inside
     last_valued {m = m} {h} e o y f w q i v g = finished (out (reads_it q refl u (returned_some b n g) (rest_expr b) e)) (omega arith) refl refl (ap (return_row x.start m.end 1) v) o (put_since _ h _ i y)
 
@@ -96,10 +96,10 @@ pub returns_begin : {s : List ℕ} {b : Bool} {l : Limits} {h : Here} {t starts 
 returns_begin g w i k j = record { stands = g; word = w; over = over_none; few = omega arith; further = omega arith; kept = refl; room = (i, k, j) }
 
 module _ {s : List ℕ} {b : Bool} {l₀ : Limits} {h₀ : Here} {t₀ starts sinces details : List ℕ} {n : ℕ} {l : Limits} {h : Here} {t : List ℕ} (w : Returns s b l₀ h₀ t₀ starts sinces details n l h t) {r : Read} (p : r ≡ under s h l.signs) where
-  pub returns_deep : {e : Refusal} → r ≡ Refused e → Answers (the s (counts l₀) (EXPR b) h₀ t₀) 1 r t
+  pub returns_deep : {e : Refusal} → r ≡ Err e → Answers (the s (counts l₀) (EXPR b) h₀ t₀) 1 r t
   returns_deep q = over_refused w.over (return_deep s l b h t w.stands w.word p q) q
 
-  module _ {x : Node} {z : Here} (q : r ≡ Done x z) where
+  module _ {x : Node} {z : Here} (q : r ≡ Ok (x, z)) where
     goes : Going (the s (counts l) (EXPR b) h t) (at (counts (signed l)) (a (RETURNED b) ∷ row kinds.RETURN ∷ []) ∷ []) z t (many x.start x.end 0 (some (word_of h))) 0 4
     goes = return_goes s l b h t w.stands w.word p q
 
@@ -111,14 +111,14 @@ module _ {s : List ℕ} {b : Bool} {l₀ : Limits} {h₀ : Here} {t₀ starts si
       innermost : {r₁ : Read} {t₁ : List ℕ} → Last s z t l' b x j h.rows r₁ t₁ → Answers (the s (counts l) (EXPR b) h t) 1 r₁ t₁
       innermost u = u (the s (counts l) (EXPR b) h t) (word_of h) refl refl v (subst (λ (k : Limits). Going (the s (counts l) (EXPR b) h t) (at (counts k) (a (RETURNED b) ∷ row kinds.RETURN ∷ []) ∷ []) z t (many x.start x.end 0 (some (word_of h))) 0 4) (sym i) goes)
 
-      pub returns_bare : {r₁ r₂ : Read} {t₁ t₂ : List ℕ} → T (ends_return (word_of z) b) → r₁ ≡ Done (node_of (return_row x.start x.end 0 j)) (later z) → t₁ ≡ put_over t z (return_row x.start x.end 0 j) h.rows → r₂ ≡ over_read starts details 27 1 n r₁ → t₂ ≡ over_table starts sinces details 27 1 n r₁ t₁ → Answers (the s (counts l₀) (EXPR b) h₀ t₀) 1 r₂ t₂
+      pub returns_bare : {r₁ r₂ : Read} {t₁ t₂ : List ℕ} → T (ends_return (word_of z) b) → r₁ ≡ Ok (node_of (return_row x.start x.end 0 j), later z) → t₁ ≡ put_over t z (return_row x.start x.end 0 j) h.rows → r₂ ≡ over_read starts details 27 1 n r₁ → t₂ ≡ over_table starts sinces details 27 1 n r₁ t₁ → Answers (the s (counts l₀) (EXPR b) h₀ t₀) 1 r₂ t₂
       returns_bare e o y o' y' = over_ends w.over (innermost (last_ends l' b x j e o y)) o' y'
 
       module _ (m : T (ends_return (word_of z) b) → ⊥) {r₁ : Read} {t₁ : List ℕ} (u : Answers (the s (counts l') (EXPR b) z t) 1 r₁ t₁) where
-        pub returns_fails : {e : Refusal} → r₁ ≡ Refused e → Answers (the s (counts l₀) (EXPR b) h₀ t₀) 1 r₁ t₁
+        pub returns_fails : {e : Refusal} → r₁ ≡ Err e → Answers (the s (counts l₀) (EXPR b) h₀ t₀) 1 r₁ t₁
         returns_fails e = over_refused w.over (innermost (last_fails l' b x j m u e)) e
 
-        pub returns_valued : {m₁ : Node} {h₁ : Here} {r₂ r₃ : Read} {t₂ t₃ : List ℕ} → r₁ ≡ Done m₁ h₁ → r₂ ≡ Done (node_of (return_row x.start m₁.end 1 j)) (later h₁) → t₂ ≡ put_over t₁ h₁ (return_row x.start m₁.end 1 j) h.rows → r₃ ≡ over_read starts details 27 1 n r₂ → t₃ ≡ over_table starts sinces details 27 1 n r₂ t₂ → Answers (the s (counts l₀) (EXPR b) h₀ t₀) 1 r₃ t₃
+        pub returns_valued : {m₁ : Node} {h₁ : Here} {r₂ r₃ : Read} {t₂ t₃ : List ℕ} → r₁ ≡ Ok (m₁, h₁) → r₂ ≡ Ok (node_of (return_row x.start m₁.end 1 j), later h₁) → t₂ ≡ put_over t₁ h₁ (return_row x.start m₁.end 1 j) h.rows → r₃ ≡ over_read starts details 27 1 n r₂ → t₃ ≡ over_table starts sinces details 27 1 n r₂ t₂ → Answers (the s (counts l₀) (EXPR b) h₀ t₀) 1 r₃ t₃
         returns_valued e o y o' y' = over_ends w.over (innermost (last_valued l' b x j m u e o y)) o' y'
 
     pub returns_on : {l' : Limits} {j : ℕ} {starts' sinces' details' : List ℕ} → T (one_of (word_of z) return_words) → l' ≡ signed l → j ≡ detail_for kinds.RETURN (word_of h) → starts' ≡ set starts n x.start → sinces' ≡ set sinces n h.rows → details' ≡ set details n j → Returns s b l₀ h₀ t₀ starts' sinces' details' (n + 1) l' z t
@@ -140,8 +140,8 @@ module _ {s : List ℕ} {b : Bool} {l₀ : Limits} {h₀ : Here} {t₀ starts si
         inner : Going (the s (counts l) (EXPR b) h t) (at (counts l') (a (RETURNED b) ∷ row kinds.RETURN ∷ []) ∷ []) z t (many x.start x.end 0 (some (word_of h))) 0 4
         inner = subst (λ (k : Limits). Going (the s (counts l) (EXPR b) h t) (at (counts k) (a (RETURNED b) ∷ row kinds.RETURN ∷ []) ∷ []) z t (many x.start x.end 0 (some (word_of h))) 0 4) (sym i) goes
 
-        valued : (m₁ : Node) (h₁ : Here) (t₁ t₂ : List ℕ) (q₁ : Row) → Answers (the s (counts l') (EXPR b) z t) 1 (Done m₁ h₁) t₁ → q₁ ≡ return_row x.start m₁.end 1 j → t₂ ≡ put_over t₁ h₁ q₁ h.rows → Answers (the s (counts l) (EXPR b) h t) 1 (Done (node_of q₁) (later h₁)) t₂
-        valued m₁ h₁ t₁ t₂ q₁ u e y = last_valued l' b x j (no_end (word_of z) b m) u refl (ap (λ (k : Row). Done (node_of k) (later h₁)) e) (y ∙ ap (λ (k : Row). put_over t₁ h₁ k h.rows) e) (the s (counts l) (EXPR b) h t) (word_of h) refl refl v inner
+        valued : (m₁ : Node) (h₁ : Here) (t₁ t₂ : List ℕ) (q₁ : Row) → Answers (the s (counts l') (EXPR b) z t) 1 (Ok (m₁, h₁)) t₁ → q₁ ≡ return_row x.start m₁.end 1 j → t₂ ≡ put_over t₁ h₁ q₁ h.rows → Answers (the s (counts l) (EXPR b) h t) 1 (Ok (node_of q₁, later h₁)) t₂
+        valued m₁ h₁ t₁ t₂ q₁ u e y = last_valued l' b x j (no_end (word_of z) b m) u refl (ap (λ (k : Row). Ok (node_of k, later h₁)) e) (y ∙ ap (λ (k : Row). put_over t₁ h₁ k h.rows) e) (the s (counts l) (EXPR b) h t) (word_of h) refl refl v inner
 
-        fails : (e : Refusal) (t₁ : List ℕ) → Answers (the s (counts l') (EXPR b) z t) 1 (Refused e) t₁ → Answers (the s (counts l) (EXPR b) h t) 1 (Refused e) t₁
+        fails : (e : Refusal) (t₁ : List ℕ) → Answers (the s (counts l') (EXPR b) z t) 1 (Err e) t₁ → Answers (the s (counts l) (EXPR b) h t) 1 (Err e) t₁
         fails e t₁ u = last_fails l' b x j (no_end (word_of z) b m) u refl (the s (counts l) (EXPR b) h t) (word_of h) refl refl v inner

@@ -1,5 +1,6 @@
 -- C-11: an f-string. One law for each step of its reader's loop: it begins, a piece of text, into a hole, behind a hole's
 -- expr, and the row.
+use Rattle.std.specs.Prelude.{Some, None, Ok, Err}
 use mathlib.Core.Path.{◌≡◌, refl, sym, ap, subst, ◌∙◌}
 use mathlib.Core.List.{List, [], ◌∷◌}
 use mathlib.Core.Bool.{Bool, true, false, cond}
@@ -27,17 +28,17 @@ use Rattle.grammar.proofs.Open.{Left}
 use Rattle.grammar.proofs.Picked.{picks_off}
 use Rattle.answers.specs.Source.{source, text_token, piece_of}
 use Rattle.answers.proofs.Ahead.{pieces_take}
-use Rattle.strings.specs.declared.Size.{Size}
+use Rattle.strings.specs.Results.{Size}
+use Rattle.texts.specs.Results.{Scanned}
 use Rattle.texts.specs.declared.Part.{Part}
-use Rattle.texts.specs.declared.Part.TheVariants.{Before, Ends, None}
+use Rattle.texts.specs.declared.Part.TheVariants.{Before, Ends}
 use Rattle.texts.specs.Parts.{part_at}
 use Rattle.texts.specs.Texts.{text_of}
 use Rattle.texts.proofs.Parts.{Parted, parted_before, parted_ends, part_lies}
 use Rattle.parser.specs.declared.Here.{Here}
 use Rattle.parser.specs.declared.Limits.{Limits}
 use Rattle.parser.specs.declared.Node.{Node}
-use Rattle.parser.specs.declared.Read.{Read}
-use Rattle.parser.specs.declared.Read.TheVariants.{Done, Refused}
+use Rattle.parser.specs.Results.{Read}
 use Rattle.parser.specs.Places.{word_of, start_of, end_of, next_of, bumped, here_at, later, refusal_at, unused, node_of, put_over, opening, plain_row, part_row, part_node, piece_read, piece_table, part_read, part_table}
 use Rattle.parser.specs.Counted.{counts, opened, Alike}
 use Rattle.parser.specs.Going.{token_of, Stands, Tally, bare, many, with_token, count_of, Phrase, Going, Whole, Stopped, Answers}
@@ -149,7 +150,7 @@ module _ {f : Phrase} {l : Limits} {start c : ℕ} {h : Here} {t : List ℕ} (g 
   spelling_ill = spoils_off g.going g.words (is_word g.stands_there) g.passes
 
 -- into a hole, and behind its expr
-module _ {f : Phrase} {l : Limits} {start e c : ℕ} {h : Here} {t : List ℕ} (g : Holed f l start e c h t) {r : Read} (p : r ≡ opening f.text h 40 l.brackets) {x : Node} {z : Here} (i : r ≡ Done x z) where
+module _ {f : Phrase} {l : Limits} {start e c : ℕ} {h : Here} {t : List ℕ} (g : Holed f l start e c h t) {r : Read} (p : r ≡ opening f.text h 40 l.brackets) {x : Node} {z : Here} (i : r ≡ Ok (x, z)) where
   pub in_hole : Going f (at (after opens_bracket g.before) (a (EXPR records) ∷ closes close_brace ∷ text HOLE ∷ []) ∷ at g.before [] ∷ at g.around (row kinds.F_STRING ∷ []) ∷ []) z t (many start x.end c (some 90)) 0 8
   unfolding inside
   in_hole = opens_on 40 l (into_off hole_any refl (λ q. q) g.going) tt g.alike p i
@@ -174,7 +175,7 @@ module _ {f : Phrase} {l : Limits} {start e c : ℕ} {h : Here} {t : List ℕ} (
   }
 
 -- its row
-pub quoted_ends : {f : Phrase} {start e c : ℕ} {h h' : Here} {t t' : List ℕ} {r : Read} → Quoted f start e c h t → r ≡ Done (node_of (plain_row kinds.F_STRING start e c)) h' → h' ≡ later h → t' ≡ put_over t h (plain_row kinds.F_STRING start e c) f.from.rows → Answers f 1 r t'
+pub quoted_ends : {f : Phrase} {start e c : ℕ} {h h' : Here} {t t' : List ℕ} {r : Read} → Quoted f start e c h t → r ≡ Ok (node_of (plain_row kinds.F_STRING start e c), h') → h' ≡ later h → t' ≡ put_over t h (plain_row kinds.F_STRING start e c) f.from.rows → Answers f 1 r t'
 quoted_ends {start = start} {e = e} {c = c} g v b q = done v (ends (out (writes {r = plain_row kinds.F_STRING start e c} (fewer 2 (omega arith) g.going) refl refl refl b q)) refl refl refl)
 
 -- What `parser::piece` answers: a hole is next, or the quote was (92); or a refusal. It has come past place n, with at most one row.
@@ -188,13 +189,13 @@ module _ {f : Phrase} {l : Limits} {start c : ℕ} {h : Here} {t : List ℕ} (g 
   counted false n e = ap (λ (x : Bool). h.rows + cond x 0 1) e ∙ bump_more 300000 h.rows (few_rows g.going).0
 
   -- a piece of some size, of one of the two words
-  sized : {r : Read} {t' : List ℕ} (w e j n : ℕ) (b : Bool) → eqb n 0 ≡ b → T (is_text (text_token w (next_of h) e (Size.Is n))) → (source f.text).piece (next_of h) ≡ found (text_token w (next_of h) e (Size.Is n)) j → next_of h ≤ j → j ≤ length f.text
-      → (w ≡ text_then_hole) ⊎ (w ≡ last_text) → token_nodes (text_token w (next_of h) e (Size.Is n)) ≡ cond (eqb n 0) 0 1
-      → r ≡ Done (part_node w (next_of h) e (cond b 0 1)) (here_at f.text j (cond b h.rows (bumped h.rows))) → t' ≡ wrote_text t h.rows (text_token w (next_of h) e (Size.Is n)) → Partly f r t' (After f l start c (next_of h) t')
+  sized : {r : Read} {t' : List ℕ} (w e j n : ℕ) (b : Bool) → eqb n 0 ≡ b → T (is_text (text_token w (next_of h) e (Some n))) → (source f.text).piece (next_of h) ≡ found (text_token w (next_of h) e (Some n)) j → next_of h ≤ j → j ≤ length f.text
+      → (w ≡ text_then_hole) ⊎ (w ≡ last_text) → token_nodes (text_token w (next_of h) e (Some n)) ≡ cond (eqb n 0) 0 1
+      → r ≡ Ok (part_node w (next_of h) e (cond b 0 1), here_at f.text j (cond b h.rows (bumped h.rows))) → t' ≡ wrote_text t h.rows (text_token w (next_of h) e (Some n)) → Partly f r t' (After f l start c (next_of h) t')
   sized {t' = t'} w e j n b eb is p lo hi ws nodes a q = partly a (go ws)
     where
       x : Token
-      x = text_token w (next_of h) e (Size.Is n)
+      x = text_token w (next_of h) e (Some n)
 
       here : here_at f.text j (cond b h.rows (bumped h.rows)) ≡ here_at f.text j (h.rows + token_nodes x)
       here = ap (here_at f.text j) (sym (ap (λ (k : ℕ). h.rows + k) nodes ∙ counted b n eb))
@@ -219,13 +220,13 @@ module _ {f : Phrase} {l : Limits} {start c : ℕ} {h : Here} {t : List ℕ} (g 
       go (inl k) = (λ o. absurd (omega (arith, k, o)), λ o. subst (λ (m : ℕ). Holed f l start e m z t') count (spelling_hole g p k tt is low hi here q), beyond, one_most b)
       go (inr k) = (λ o. subst (λ (m : ℕ). Quoted f start e m z t') count (spelling_last g p k tt is low hi here q), λ o. absurd (o k), beyond, one_most b)
 
-  told : {r : Read} {t' : List ℕ} (w e j : ℕ) → ((n : ℕ) → T (is_text (text_token w (next_of h) e (Size.Is n)))) → ((n : ℕ) → token_nodes (text_token w (next_of h) e (Size.Is n)) ≡ cond (eqb n 0) 0 1) → next_of h ≤ j → j ≤ length f.text → (w ≡ text_then_hole) ⊎ (w ≡ last_text)
+  told : {r : Read} {t' : List ℕ} (w e j : ℕ) → ((n : ℕ) → T (is_text (text_token w (next_of h) e (Some n)))) → ((n : ℕ) → token_nodes (text_token w (next_of h) e (Some n)) ≡ cond (eqb n 0) 0 1) → next_of h ≤ j → j ≤ length f.text → (w ≡ text_then_hole) ⊎ (w ≡ last_text)
       → (z : Size) → (source f.text).piece (next_of h) ≡ found (text_token w (next_of h) e z) j → r ≡ piece_read f.text h.rows (next_of h) w e j z → t' ≡ piece_table t h.rows (next_of h) e z → Partly f r t' (After f l start c (next_of h) t')
   unfolding piece_read piece_table
-  told {r} {t'} w e j is nodes lo hi ws Size.None p a q = partly_stops a (subst (λ (y : List ℕ). Stopped f (refusal_at 7 (next_of h) e) y) (sym q) (spelling_ill g p tt))
-  told {r} {t'} w e j is nodes lo hi ws (Size.Is n) p a q = go (eqb n 0) refl a q
+  told {r} {t'} w e j is nodes lo hi ws None p a q = partly_stops a (subst (λ (y : List ℕ). Stopped f (refusal_at 7 (next_of h) e) y) (sym q) (spelling_ill g p tt))
+  told {r} {t'} w e j is nodes lo hi ws (Some n) p a q = go (eqb n 0) refl a q
     where
-      go : (b : Bool) → eqb n 0 ≡ b → r ≡ cond b (Done (part_node w (next_of h) e 0) (here_at f.text j h.rows)) (Done (part_node w (next_of h) e 1) (here_at f.text j (bumped h.rows))) → t' ≡ cond b t (put_row t h.rows (part_row (next_of h) e n) 1) → Partly f r t' (After f l start c (next_of h) t')
+      go : (b : Bool) → eqb n 0 ≡ b → r ≡ cond b (Ok (part_node w (next_of h) e 0, here_at f.text j h.rows)) (Ok (part_node w (next_of h) e 1, here_at f.text j (bumped h.rows))) → t' ≡ cond b t (put_row t h.rows (part_row (next_of h) e n) 1) → Partly f r t' (After f l start c (next_of h) t')
       go true eb a' q' = sized w e j n true eb (is n) p lo hi ws (nodes n) a' (q' ∙ sym (ap (λ (b : Bool). cond b t (put_row t h.rows (part_row (next_of h) e n) 1)) eb))
       go false eb a' q' = sized w e j n false eb (is n) p lo hi ws (nodes n) a' (q' ∙ sym (ap (λ (b : Bool). cond b t (put_row t h.rows (part_row (next_of h) e n) 1)) eb))
 
@@ -233,10 +234,10 @@ module _ {f : Phrase} {l : Limits} {start c : ℕ} {h : Here} {t : List ℕ} (g 
   unfolding part_read part_table
   part_told {r} {t'} a q = go (part_at f.text (next_of h)) (part_lies f.text (next_of h)) refl a q
     where
-      go : (k : Part) → Parted (next_of h) (length f.text) k → part_at f.text (next_of h) ≡ k → r ≡ part_read f.text h.rows (next_of h) k → t' ≡ part_table f.text t h.rows (next_of h) k → Partly f r t' (After f l start c (next_of h) t')
-      go None pn e a' q' = partly_stops a' (subst (λ (y : List ℕ). Stopped f (refusal_at 11 (length f.text) (length f.text)) y) (sym q') (spelling_torn g (subst (λ (k : Part). T (torn (piece_of f.text (next_of h) k))) (sym e) tt)))
-      go (Before x) (parted_before lo hi) e a' q' = told 91 x x (λ n. tt) (λ n. refl) lo (omega arith) (inl refl) (text_of (slice (next_of h) x f.text)) (ap (piece_of f.text (next_of h)) e) a' q'
-      go (Ends x) (parted_ends lo hi) e a' q' = told 92 x (x + 1) (λ n. tt) (λ n. refl) (omega arith) hi (inr refl) (text_of (slice (next_of h) x f.text)) (ap (piece_of f.text (next_of h)) e) a' q'
+      go : (k : Scanned) → Parted (next_of h) (length f.text) k → part_at f.text (next_of h) ≡ k → r ≡ part_read f.text h.rows (next_of h) k → t' ≡ part_table f.text t h.rows (next_of h) k → Partly f r t' (After f l start c (next_of h) t')
+      go None pn e a' q' = partly_stops a' (subst (λ (y : List ℕ). Stopped f (refusal_at 11 (length f.text) (length f.text)) y) (sym q') (spelling_torn g (subst (λ (k : Scanned). T (torn (piece_of f.text (next_of h) k))) (sym e) tt)))
+      go (Some (Before x)) (parted_before lo hi) e a' q' = told 91 x x (λ n. tt) (λ n. refl) lo (omega arith) (inl refl) (text_of (slice (next_of h) x f.text)) (ap (piece_of f.text (next_of h)) e) a' q'
+      go (Some (Ends x)) (parted_ends lo hi) e a' q' = told 92 x (x + 1) (λ n. tt) (λ n. refl) (omega arith) hi (inr refl) (text_of (slice (next_of h) x f.text)) (ap (piece_of f.text (next_of h)) e) a' q'
 
   -- the text begins at the end of the token there
   pub piece_told : {r : Read} {t' : List ℕ} → r ≡ part_read f.text h.rows (end_of h) (part_at f.text (end_of h)) → t' ≡ part_table f.text t h.rows (end_of h) (part_at f.text (end_of h)) → Partly f r t' (After f l start c (next_of h) t')
@@ -253,26 +254,26 @@ module _ {s : List ℕ} {l : Limits} {h₀ : Here} {t₀ : List ℕ} {c : ℕ} {
   string_few = let k = few_rows g.going in let e : c ≡ count_of g.tally = sym (ap count_of g.has) ∙ count_token g.tally h in (omega (arith, k.3, e), k.4, omega (arith, k.1, k.2))
 
   module _ {r : Read} {t₁ : List ℕ} (p : r ≡ part_read s h.rows (end_of h) (part_at s (end_of h))) (q : t₁ ≡ part_table s t h.rows (end_of h) (part_at s (end_of h))) where
-    pub string_torn : {e : Refusal} → r ≡ Refused e → Answers String 1 r t₁
+    pub string_torn : {e : Refusal} → r ≡ Err e → Answers String 1 r t₁
     string_torn e = stops_answer (piece_told g p q) e
 
-    module _ {m : Node} {z : Here} (i : r ≡ Done m z) where
+    module _ {m : Node} {z : Here} (i : r ≡ Ok (m, z)) where
       pub behind_piece : After String l (start_of h₀) c (next_of h) t₁ m z
       behind_piece = partly_of (piece_told g p q) i
 
-      pub string_ends : {v : Row} {r₁ : Read} {t₂ : List ℕ} → m.kind ≡ 92 → v ≡ plain_row kinds.F_STRING (start_of h₀) m.end (c + m.children) → r₁ ≡ Done (node_of v) (later z) → t₂ ≡ put_over t₁ z v h₀.rows → Answers String 1 r₁ t₂
-      string_ends k v o y = quoted_ends (behind_piece.0 k) (o ∙ ap (λ (x : Row). Done (node_of x) (later z)) v) refl (y ∙ ap (λ (x : Row). put_over t₁ z x h₀.rows) v)
+      pub string_ends : {v : Row} {r₁ : Read} {t₂ : List ℕ} → m.kind ≡ 92 → v ≡ plain_row kinds.F_STRING (start_of h₀) m.end (c + m.children) → r₁ ≡ Ok (node_of v, later z) → t₂ ≡ put_over t₁ z v h₀.rows → Answers String 1 r₁ t₂
+      string_ends k v o y = quoted_ends (behind_piece.0 k) (o ∙ ap (λ (x : Row). Ok (node_of x, later z)) v) refl (y ∙ ap (λ (x : Row). put_over t₁ z x h₀.rows) v)
 
       -- into a hole
       module _ (k : m.kind ≢ 92) {r₁ : Read} (o : r₁ ≡ opening s z 40 l.brackets) where
         holed : Holed String l (start_of h₀) m.end (c + m.children) z t₁
         holed = behind_piece.1 k
 
-        pub hole_shut : {e : Refusal} → r₁ ≡ Refused e → Answers String 1 r₁ t₁
+        pub hole_shut : {e : Refusal} → r₁ ≡ Err e → Answers String 1 r₁ t₁
         unfolding inside
         hole_shut e = stopped e (opens_off 40 l (into_off hole_any refl (λ y. y) holed.going) tt holed.alike o e)
 
-        module _ {x : Node} {y : Here} (j : r₁ ≡ Done x y) where
+        module _ {x : Node} {y : Here} (j : r₁ ≡ Ok (x, y)) where
           pub hole_inside : Stands s y × (next_of h < next_of y) × (length t₁ ≡ length t₀)
           hole_inside = let b = opening_done s z 40 l.brackets o j in let a = past_word (40 ∷ []) holed.going.stands tt (is_word b.0) b.2.here in let n = behind_piece.2 in (a.0, omega (arith, a.1, n), kept_length holed.going)
 
@@ -282,10 +283,10 @@ module _ {s : List ℕ} {l : Limits} {h₀ : Here} {t₀ : List ℕ} {c : ℕ} {
             unfolding inside
             inner = alike_opened l holed.alike (opening_done s z 40 l.brackets o j).1 ∙ ap counts (sym d)
 
-            pub hole_fails : {e : Refusal} → r₂ ≡ Refused e → Answers String 1 r₂ t₂
+            pub hole_fails : {e : Refusal} → r₂ ≡ Err e → Answers String 1 r₂ t₂
             hole_fails e = relays (in_hole holed o j) inner u e
 
-            module _ {m₂ : Node} {z₂ : Here} (e : r₂ ≡ Done m₂ z₂) where
+            module _ {m₂ : Node} {z₂ : Here} (e : r₂ ≡ Ok (m₂, z₂)) where
               pub hole_unclosed : {r₃ : Read} → word_of z₂ ≢ 41 → r₃ ≡ unused z₂ → Answers String 1 r₃ t₂
               hole_unclosed n v = stopped v (refuses_word (reads_one (in_hole holed o j) refl inner (whole_of u e)) (λ w. n (the_word w)))
 

@@ -1,4 +1,5 @@
 -- What is followed without a tally: a literal, whose row its token gives; a whole source.
+use Rattle.std.specs.Prelude.{Some, None, Ok, Err}
 use Rattle.rows.specs.Kinds as kinds
 use Rattle.tokens.specs.Words.{code_of}
 use mathlib.Core.Path.{◌≡◌, refl, sym, ap, subst, ◌∙◌}
@@ -12,11 +13,10 @@ use lib.Seq.{slice}
 use native.Mathlib.Omega.{arith}
 use Rattle.tokens.specs.declared.Refusal.{Refusal}
 use Rattle.tokens.specs.declared.Cursor.{Cursor}
-use Rattle.tokens.specs.declared.Step.TheVariants.{Taken}
 use Rattle.tokens.proofs.Steps.{taken_good}
 use Rattle.rows.specs.declared.Row.{Row}
 use Rattle.rows.specs.Rows.{put_row}
-use Rattle.values.specs.declared.Literal.{Literal}
+use Rattle.values.specs.Results.{Worth}
 use Rattle.values.specs.Literals.{literal_of, literal_at}
 use Rattle.values.proofs.Literals.{text_fits}
 use Rattle.grammar.specs.Words.{literals, 'const', 'fn', 'import', 'test', filter_words}
@@ -42,8 +42,7 @@ use Rattle.grammar.proofs.Tests.{Alike, alike_but, alike_low, alike_declaration,
 use Rattle.answers.specs.Source.{source, holds, token_for}
 use Rattle.parser.specs.declared.Here.{Here}
 use Rattle.parser.specs.declared.Node.{Node}
-use Rattle.parser.specs.declared.Read.{Read}
-use Rattle.parser.specs.declared.Read.TheVariants.{Done, Refused}
+use Rattle.parser.specs.Results.{Read}
 use Rattle.parser.proofs.Laws.{bump_more, word_taken, start_taken, end_taken, next_taken}
 use Rattle.parser.specs.Places.{word_of, start_of, end_of, next_of, bumped, here_at, unused, passed, later, refusal_at, node_of, size_from, put_over, plain_row}
 use Rattle.parser.specs.Going.{language, token_of, Stands, as_row, store, Tally, bare, lone, many, Holds, with_node, count_of, Phrase, Going, Answers}
@@ -64,19 +63,19 @@ span_row k a e v d = record { kind = k; start = a; end = e; children = 0; value 
 abbrev literal_row : Here → ℕ → ℕ → ℕ → Row
 literal_row h k v d = span_row k (start_of h) (end_of h) v d
 
-module _ (s : List ℕ) (d : Counts) (h : Here) (t : List ℕ) (g : Stands s h) (o : T (one_of (word_of h) literals)) {x : Literal} (p : x ≡ literal_of (code_of (word_of h)) (slice (start_of h) (end_of h) s)) where
+module _ (s : List ℕ) (d : Counts) (h : Here) (t : List ℕ) (g : Stands s h) (o : T (one_of (word_of h) literals)) {x : Worth} (p : x ≡ literal_of (code_of (word_of h)) (slice (start_of h) (end_of h) s)) where
   abbrev Literally : Phrase
   Literally = the s d LITERAL h t
 
-  literal_none : {r : Read} → x ≡ Literal.None → r ≡ Refused (refusal_at 7 (start_of h) (end_of h)) → Answers Literally 1 r t
+  literal_none : {r : Read} → x ≡ None → r ≡ Err (refusal_at 7 (start_of h) (end_of h)) → Answers Literally 1 r t
   unfolding kept
-  literal_none n e = stopped e (refuses_past (begins_any literal_any g) tt o (subst (λ (y : Literal). T (not (holds y))) (sym n ∙ p) tt))
+  literal_none n e = stopped e (refuses_past (begins_any literal_any g) tt o (subst (λ (y : Worth). T (not (holds y))) (sym n ∙ p) tt))
 
-  module _ {k v e : ℕ} (q : x ≡ Literal.Is k v e) where
+  module _ {k v e : ℕ} (q : x ≡ Some (record { kind = k; value = v; detail = e })) where
     row_is : as_row (literal_of_lem (own (token_of s h) ∷ []) 0 1) ≡ literal_row h k v e
-    row_is = ap (λ (y : Literal). as_row (literal_of_lem (own (token_for (word_of h) (start_of h) (end_of h) y) ∷ []) 0 1)) (sym p ∙ q)
+    row_is = ap (λ (y : Worth). as_row (literal_of_lem (own (token_for (word_of h) (start_of h) (end_of h) y) ∷ []) 0 1)) (sym p ∙ q)
 
-    literal_read : {z : Here} {r : Read} {t' : List ℕ} → z ≡ passed s h → (r ≡ Done (node_of (literal_row h k v e)) (later z)) × (t' ≡ put_over t z (literal_row h k v e) h.rows) → Answers Literally 1 r t'
+    literal_read : {z : Here} {r : Read} {t' : List ℕ} → z ≡ passed s h → (r ≡ Ok (node_of (literal_row h k v e), later z)) × (t' ≡ put_over t z (literal_row h k v e) h.rows) → Answers Literally 1 r t'
     unfolding inside kept take_note row_of store
     literal_read j w =
         let n = solid_word (word_of h) literals tt o in
@@ -91,8 +90,8 @@ module _ (s : List ℕ) (d : Counts) (h : Here) (t : List ℕ) (g : Stands s h) 
         let more : bumped (passed s h).rows ≡ (passed s h).rows + 1 = sym (bump_more 300000 (passed s h).rows (omega arith)) in
         let had = g.few in
         let one : size_from (passed s h) h.rows ≡ 1 = omega (arith, more, same_rows) in
-        let opened = pop (source s) language (notes (source s) language (take (source s) language c.0 tt o (subst (λ (y : Literal). T (holds y)) (sym q ∙ p) tt) (start (source s) language literal_is (picks_else s g literal_any (λ z. z))))) in
-        done (w.0 ∙ ap (λ (z : Here). Done (node_of (literal_row h k v e)) (later z)) j) (record {
+        let opened = pop (source s) language (notes (source s) language (take (source s) language c.0 tt o (subst (λ (y : Worth). T (holds y)) (sym q ∙ p) tt) (start (source s) language literal_is (picks_else s g literal_any (λ z. z))))) in
+        done (w.0 ∙ ap (λ (z : Here). Ok (node_of (literal_row h k v e), later z)) j) (record {
           draft = take_note 100 (with_own x blank);
           read = finish (source s) language (subst (λ (z : ℕ). Open (source s) language d same LITERAL h.place [] z (take_note 100 (with_own x blank))) (sym b.1) opened);
           stands = more_rows b.0 refl (omega (arith, more, had, same_rows, next));
@@ -104,7 +103,7 @@ module _ (s : List ℕ) (d : Counts) (h : Here) (t : List ℕ) (g : Stands s h) 
         })
 
 -- the same from the token that the literal's step gives
-module _ (s : List ℕ) (d : Counts) (h : Here) (t : List ℕ) (g : Stands s h) (o : T (one_of (word_of h) literals)) {w a : ℕ} {next : Cursor} (i : h.step ≡ Taken w a next) {n : ℕ} {x : Literal} (c : n ≡ code_of w) (p : x ≡ literal_at n a next.at s) where
+module _ (s : List ℕ) (d : Counts) (h : Here) (t : List ℕ) (g : Stands s h) (o : T (one_of (word_of h) literals)) {w a : ℕ} {next : Cursor} (i : h.step ≡ Ok (w, a, next)) {n : ℕ} {x : Worth} (c : n ≡ code_of w) (p : x ≡ literal_at n a next.at s) where
   -- a token lies inside its source
   inside_source : (a ≤ next.at) × (next.at ≤ length s)
   unfolding here_at
@@ -113,10 +112,10 @@ module _ (s : List ℕ) (d : Counts) (h : Here) (t : List ℕ) (g : Stands s h) 
   token_value : x ≡ literal_of (code_of (word_of h)) (slice (start_of h) (end_of h) s)
   token_value = p ∙ sym (text_fits n s a next.at inside_source.0 inside_source.1) ∙ ap (λ (y : ℕ). literal_of y (slice a next.at s)) (c ∙ ap code_of (word_taken i)) ∙ ap (λ (y : ℕ). literal_of (code_of (word_of h)) (slice y next.at s)) (sym (start_taken i)) ∙ ap (λ (y : ℕ). literal_of (code_of (word_of h)) (slice (start_of h) y s)) (sym (end_taken i))
 
-  pub token_none : {r : Read} → x ≡ Literal.None → r ≡ Refused (refusal_at 7 a next.at) → Answers (the s d LITERAL h t) 1 r t
-  token_none q e = literal_none s d h t g o token_value q (e ∙ ap (λ (y : ℕ). Refused (refusal_at 7 y next.at)) (sym (start_taken i)) ∙ ap (λ (y : ℕ). Refused (refusal_at 7 (start_of h) y)) (sym (end_taken i)))
+  pub token_none : {r : Read} → x ≡ None → r ≡ Err (refusal_at 7 a next.at) → Answers (the s d LITERAL h t) 1 r t
+  token_none q e = literal_none s d h t g o token_value q (e ∙ ap (λ (y : ℕ). Err (refusal_at 7 y next.at)) (sym (start_taken i)) ∙ ap (λ (y : ℕ). Err (refusal_at 7 (start_of h) y)) (sym (end_taken i)))
 
-  pub token_read : {k v e : ℕ} {z : Here} {r : Read} {t' : List ℕ} → x ≡ Literal.Is k v e → z ≡ here_at s next.at h.rows → (r ≡ Done (node_of (span_row k a next.at v e)) (later z)) × (t' ≡ put_over t z (span_row k a next.at v e) h.rows) → Answers (the s d LITERAL h t) 1 r t'
+  pub token_read : {k v e : ℕ} {z : Here} {r : Read} {t' : List ℕ} → x ≡ Some (record { kind = k; value = v; detail = e }) → z ≡ here_at s next.at h.rows → (r ≡ Ok (node_of (span_row k a next.at v e), later z)) × (t' ≡ put_over t z (span_row k a next.at v e) h.rows) → Answers (the s d LITERAL h t) 1 r t'
   token_read {k} {v} {e} {z} q j u =
       let m : span_row k a next.at v e ≡ literal_row h k v e = ap (λ (y : ℕ). span_row k y next.at v e) (sym (start_taken i)) ∙ ap (λ (y : ℕ). span_row k (start_of h) y v e) (sym (end_taken i)) in
       literal_read s d h t g o token_value q (j ∙ ap (λ (y : ℕ). here_at s y h.rows) (sym (next_taken h.place i))) (written z t h.rows m u)
@@ -126,11 +125,11 @@ pub finished_kept : {tests tree : Bool} {s t : List ℕ} {r : Read} {t' : List �
 finished_kept {tests} {tree} {s} {t} {r} {t'} h u = go r (u.short h)
   where
     go : (r : Read) → FinishedIs tests tree s t r t' → length t' ≡ length t
-    go (Done m z) x = ap length x.3 ∙ store_length t 0 x.0
-    go (Refused e) x = x.1
+    go (Ok (m, z)) x = ap length x.3 ∙ store_length t 0 x.0
+    go (Err e) x = x.1
 
 -- a source that is too long
-pub finished_long : (tests tree : Bool) (s t : List ℕ) {r : Read} → 65535 < length s → r ≡ Refused (refusal_at 1 65535 65535) → Finished tests tree s t r t
+pub finished_long : (tests tree : Bool) (s t : List ℕ) {r : Read} → 65535 < length s → r ≡ Err (refusal_at 1 65535 65535) → Finished tests tree s t r t
 finished_long tests tree s t h e = record { short = λ q. absurd (omega (arith, h, q)); long = λ q. (e, refl) }
 
 -- where a reader begins
@@ -152,14 +151,14 @@ module _ (tests tree : Bool) (s t : List ℕ) (short : length s ≤ 65535) {i : 
   from_first : {x : answers.Answer} → answers.Answers (source s) tests tree (length s) i.place x → answers.Answers (source s) tests tree (length s) 0 x
   from_first {x} = subst (λ (p : ℕ). answers.Answers (source s) tests tree (length s) p x) (first_place s short b)
 
-  finished_stops : {r : Read} {e : Refusal} {t' : List ℕ} {z : ℕ} {y : Why} → phrases.Refused (source s) (roto tests) zeros same (goal tree) i.place z y → said (length s) ((source s).look z) y ≡ record { number = e.number; start = e.start; end = e.end } → length t' ≡ length t → r ≡ Refused e → Finished tests tree s t r t'
+  finished_stops : {r : Read} {e : Refusal} {t' : List ℕ} {z : ℕ} {y : Why} → phrases.Refused (source s) (roto tests) zeros same (goal tree) i.place z y → said (length s) ((source s).look z) y ≡ record { number = e.number; start = e.start; end = e.end } → length t' ≡ length t → r ≡ Err e → Finished tests tree s t r t'
   finished_stops f w k q = finished_is q (from_first (subst (λ (x : refusals.Refusal). answers.Answers (source s) tests tree (length s) i.place (refused x)) w (refused_stops (source s) tests tree (length s) f)), k)
 
   module _ {h : Here} {x : Draft} (u : phrases.Read (source s) (roto tests) zeros same (goal tree) i.place h.place x) (g : Stands s h) where
     finished_left : {r : Read} {t' : List ℕ} → word_of h ≢ 0 → r ≡ unused h → length t' ≡ length t → Finished tests tree s t r t'
     finished_left n q k = finished_is q (from_first (subst (λ (x : refusals.Refusal). answers.Answers (source s) tests tree (length s) i.place (refused x)) (says g (want []) (λ len x. refl, λ len q. refl)) (read_left (source s) tests tree (length s) u (not_over g n))), k)
 
-    finished_read : {r : Read} {m : Node} {z : Here} {t' : List ℕ} → word_of h ≡ 0 → r ≡ Done m z → z.rows ≡ length (rows_from tree (length s) x) → t' ≡ store t 0 (rows_from tree (length s) x) → Finished tests tree s t r t'
+    finished_read : {r : Read} {m : Node} {z : Here} {t' : List ℕ} → word_of h ≡ 0 → r ≡ Ok (m, z) → z.rows ≡ length (rows_from tree (length s) x) → t' ≡ store t 0 (rows_from tree (length s) x) → Finished tests tree s t r t'
     finished_read n q c k = finished_is q (rows_from tree (length s) x, from_first (read_accepted (source s) tests tree (length s) u (is_over g n)), c, k)
 
 -- one expression
@@ -167,17 +166,17 @@ module _ (tests : Bool) (s t : List ℕ) (short : length s ≤ 65535) {i : Here}
   expr_alike : Alike (source s) tests (EXPR records) i.place
   expr_alike = alike_low (source s) tests (EXPR records) tt i.place
 
-  pub expression_refused : {e : Refusal} → r ≡ Refused e → Finished tests false s t r t'
+  pub expression_refused : {e : Refusal} → r ≡ Err e → Finished tests false s t r t'
   expression_refused e = let w = stopped_of u e in finished_stops tests false s t short b (refused_by (source s) tt tests expr_alike w.stops) w.says w.kept e
 
-  module _ {m : Node} {h : Here} (e : r ≡ Done m h) where
+  module _ {m : Node} {h : Here} (e : r ≡ Ok (m, h)) where
     expr_read : phrases.Read (source s) (roto tests) zeros same (EXPR records) i.place h.place (whole_of u e).draft
     expr_read = read_by (source s) tt tests expr_alike (whole_of u e).read
 
     pub expression_left : {r' : Read} → word_of h ≢ 0 → r' ≡ unused h → Finished tests false s t r' t'
     expression_left n q = finished_left tests false s t short b expr_read (whole_of u e).stands n q (kept_either u)
 
-    pub expression_read : word_of h ≡ 0 → Finished tests false s t (Done m h) t'
+    pub expression_read : word_of h ≡ 0 → Finished tests false s t (Ok (m, h)) t'
     unfolding rows_from
     expression_read n = let w = whole_of u e in let z = first_rows s short b in finished_read tests false s t short b expr_read w.stands n refl (let q = w.rows in omega (arith, z, q)) (w.stored ∙ ap (λ (k : ℕ). store t k w.draft.rows) z)
 
@@ -263,7 +262,7 @@ module _ (tests : Bool) (s t₀ : List ℕ) (short : length s ≤ 65535) {i : He
     pub tree_few : (c < 300000) × (next_of h ≤ 65536)
     tree_few = let q = few_rows x.going in let y = x.count in (omega arith, omega arith)
 
-    pub tree_refused : {r : Read} {e : Refusal} {t' : List ℕ} → T (one_of (word_of h) (firsts_by tests)) → Answers (the s zeros DECLARATION h t) 1 r t' → r ≡ Refused e → Finished tests true s t₀ r t'
+    pub tree_refused : {r : Read} {e : Refusal} {t' : List ℕ} → T (one_of (word_of h) (firsts_by tests)) → Answers (the s zeros DECLARATION h t) 1 r t' → r ≡ Err e → Finished tests true s t₀ r t'
     tree_refused o u e =
         let g = x.going.stands in
         let w = stopped_of u e in
@@ -283,7 +282,7 @@ module _ (tests : Bool) (s t₀ : List ℕ) (short : length s ≤ 65535) {i : He
             let f = subst T (sym e) tt in
             finished_stops tests true s t₀ short b (fails (source s) (roto tests) (no_first tests s g (only_test tests (word_of h) f o)) (enters tests s g f x.opened)) (says g (amiss DECLARATION) (λ len y. refl, λ len y. refl)) (kept_length x.going) q
 
-    pub tree_read : {y : Row} {r : Read} {t' : List ℕ} → word_of h ≡ 0 → y ≡ plain_row kinds.TREE 0 (length s) c → (r ≡ Done (node_of y) (later h)) × (t' ≡ put_over t h y 0) → Finished tests true s t₀ r t'
+    pub tree_read : {y : Row} {r : Read} {t' : List ℕ} → word_of h ≡ 0 → y ≡ plain_row kinds.TREE 0 (length s) c → (r ≡ Ok (node_of y, later h)) × (t' ≡ put_over t h y 0) → Finished tests true s t₀ r t'
     unfolding rows_from
     tree_read n e p =
         let g = x.going in
@@ -300,7 +299,7 @@ module _ (tests : Bool) (s t₀ : List ℕ) (short : length s ≤ 65535) {i : He
         finished_read tests true s t₀ short b (tree_over (subst (λ (w : ℕ). T (one_of w declaration_firsts)) n)) g.stands n p.0 (omega (arith, more, r, z, len)) (p.1 ∙ ap (λ (q : Row). put_over t h q 0) e ∙ ap (λ (q : List ℕ). put_over q h (plain_row kinds.TREE 0 (length s) c) 0) at_start ∙ ap (put_row (store t₀ 0 d.rows) h.rows (plain_row kinds.TREE 0 (length s) c)) all ∙ ap (λ (q : ℕ). put_row (store t₀ 0 d.rows) q (plain_row kinds.TREE 0 (length s) c) (suc (sizes d.items))) rows ∙ ap (λ (q : ℕ). put_row (store t₀ 0 d.rows) (0 + length d.rows) (plain_row kinds.TREE 0 (length s) q) (suc (sizes d.items))) (sym k) ∙ sym (store_row t₀ 0 d.rows (tree_row (length s) d)))
 
 -- one declaration more
-pub tree_more : {tests : Bool} {s : List ℕ} {i : Here} {t₀ : List ℕ} {c : ℕ} {h : Here} {t : List ℕ} {r : Read} {m : Node} {z : Here} {t' : List ℕ} → Declaring tests (the s zeros TREE i t₀) c h t → T (one_of (word_of h) (firsts_by tests)) → Answers (the s zeros DECLARATION h t) 1 r t' → r ≡ Done m z → Declaring tests (the s zeros TREE i t₀) (c + 1) z t'
+pub tree_more : {tests : Bool} {s : List ℕ} {i : Here} {t₀ : List ℕ} {c : ℕ} {h : Here} {t : List ℕ} {r : Read} {m : Node} {z : Here} {t' : List ℕ} → Declaring tests (the s zeros TREE i t₀) c h t → T (one_of (word_of h) (firsts_by tests)) → Answers (the s zeros DECLARATION h t) 1 r t' → r ≡ Ok (m, z) → Declaring tests (the s zeros TREE i t₀) (c + 1) z t'
 unfolding goes_added
 tree_more {tests} {s} {h = h} {m = m} x o u e =
     let g = x.going.stands in

@@ -1,5 +1,5 @@
 -- The words that a choice is made by, and the rows whose detail a word gives.
-use Rattle.std.specs.Prelude.{List, [], ◌∷◌, ◌++◌, Bool, true, false, not, cond, ◌≢◌, ℕ, ◌<◌, eqb}
+use Rattle.std.specs.Prelude.{Ok, Err, List, [], ◌∷◌, ◌++◌, Bool, true, false, not, cond, ◌≢◌, ℕ, ◌<◌, eqb}
 use Rattle.rows.specs.Kinds as kinds
 use Rattle.rows.specs.declared.Row.{Row}
 use Rattle.grammar.specs.Words.{f_quote, open_brace, close_brace, open_paren, close_paren, '!', '-', dot, '?', 'import', 'let', 'const', 'fn', 'test', comma, '||', '&&', path_items, literals, four_words, compare_signs, sum_signs, product_signs, return_words, filter_words}
@@ -7,9 +7,10 @@ use Rattle.grammar.specs.Grammar.{one_of}
 use Rattle.grammar.specs.Rows.{detail_for}
 use Rattle.parser.specs.declared.Here.{Here}
 use Rattle.parser.specs.declared.Node.{Node}
-use Rattle.parser.specs.declared.Read.{Read}
-use Rattle.parser.specs.declared.Read.TheVariants.{Done, Refused}
+use Rattle.parser.specs.Results.{Read}
+use Rattle.parser.specs.Results.{StmtRead}
 use Rattle.parser.specs.declared.Stmt.{Stmt}
+use Rattle.parser.specs.Results.{ArmRead}
 use Rattle.parser.specs.declared.Arm.{Arm}
 use Rattle.parser.specs.Places.{word_of, next_of, passed, later, node_of, put_over}
 
@@ -65,12 +66,12 @@ return_row a e c d = record { kind = kinds.RETURN; start = a; end = e; children 
 
 -- a sign between two nodes: its row behind the right one, if that was read
 unfoldable pub joined_read : Node → ℕ → Read → Read
-joined_read m w (Done n h) = Done (node_of (detail_row kinds.BINARY m n w)) (later h)
-joined_read m w (Refused e) = Refused e
+joined_read m w (Ok (n, h)) = Ok (node_of (detail_row kinds.BINARY m n w), later h)
+joined_read m w (Err e) = Err e
 
 unfoldable pub joined_table : Node → ℕ → ℕ → Read → List ℕ → List ℕ
-joined_table m w since (Done n h) t = put_over t h (detail_row kinds.BINARY m n w) since
-joined_table m w since (Refused e) t = t
+joined_table m w since (Ok (n, h)) t = put_over t h (detail_row kinds.BINARY m n w) since
+joined_table m w since (Err e) t = t
 
 -- how tight a sign may bind behind one of a level: comparisons are "not chained"
 abbrev pub looser_than : ℕ → ℕ
@@ -81,29 +82,29 @@ abbrev pub part_of : ℕ → Node
 part_of n = record { kind = kinds.NONE; start = 0; end = 0; children = n }
 
 -- a statement behind its `;`; an arm that none may follow
-unfoldable pub ended_by : Read → Stmt
-ended_by (Done m h) = Stmt.Ended h
-ended_by (Refused e) = Stmt.Refused e
+unfoldable pub ended_by : Read → StmtRead
+ended_by (Ok (m, h)) = Ok (Stmt.Ended h)
+ended_by (Err e) = Err e
 
-unfoldable pub last_arm : Read → Arm
-last_arm (Done m h) = Arm.Last h
-last_arm (Refused e) = Arm.Refused e
+unfoldable pub last_arm : Read → ArmRead
+last_arm (Ok (m, h)) = Ok (Arm.Last h)
+last_arm (Err e) = Err e
 
 -- behind an arm whose body begins with a word: another may follow behind a comma, and behind a block
-abbrev pub arm_end : List ℕ → Here → ℕ → Arm
-arm_end s h begin = cond (eqb (word_of h) comma) (Arm.Followed (passed s h)) (cond (eqb begin open_brace) (Arm.Followed h) (Arm.Last h))
+abbrev pub arm_end : List ℕ → Here → ℕ → ArmRead
+arm_end s h begin = cond (eqb (word_of h) comma) (Ok (Arm.Followed (passed s h))) (cond (eqb begin open_brace) (Ok (Arm.Followed h)) (Ok (Arm.Last h)))
 
 -- no `.` stands behind what was read
 abbrev pub undotted : Read → Type 0
-undotted (Done m h) = word_of h ≢ dot
-undotted (Refused e) = Prim.Unit {0}
+undotted (Ok (m, h)) = word_of h ≢ dot
+undotted (Err e) = Prim.Unit {0}
 
 -- the reader went on
 abbrev pub onward : Here → Read → Type 0
-onward h (Done m z) = next_of h < next_of z
-onward h (Refused e) = Prim.Unit {0}
+onward h (Ok (m, z)) = next_of h < next_of z
+onward h (Err e) = Prim.Unit {0}
 
 -- what was read has few rows
 abbrev pub few : Read → Type 0
-few (Done m h) = m.children < 300000
-few (Refused e) = Prim.Unit {0}
+few (Ok (m, h)) = m.children < 300000
+few (Err e) = Prim.Unit {0}

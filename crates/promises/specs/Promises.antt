@@ -2,7 +2,7 @@
 -- for every phrase f that may be read around it: if f has come as far as this part (`Going`), then behind the part f
 -- has come so far, or f is refused (`Partly`). In all of these s is the source, h where the reader stands, t the table
 -- before, r the answer and t' the table behind it.
-use Rattle.std.specs.Prelude.{◌≡◌, List, [], ◌∷◌, Bool, cond, ◌⊎◌, ◌≢◌, ℕ, zero, suc, ◌+◌, ◌≤◌, ◌<◌, T, eqb, ltb, length, get_or}
+use Rattle.std.specs.Prelude.{Ok, Err, ◌≡◌, List, [], ◌∷◌, Bool, cond, ◌⊎◌, ◌≢◌, ℕ, zero, suc, ◌+◌, ◌≤◌, ◌<◌, T, eqb, ltb, length, get_or}
 use Rattle.std.proofs.Math.Option.{Option, some}
 use Rattle.rows.specs.Kinds as kinds
 use Rattle.tokens.specs.declared.Refusal.{Refusal}
@@ -21,9 +21,10 @@ use Rattle.answers.specs.Source.{source}
 use Rattle.parser.specs.declared.Here.{Here}
 use Rattle.parser.specs.declared.Limits.{Limits}
 use Rattle.parser.specs.declared.Node.{Node}
-use Rattle.parser.specs.declared.Read.{Read}
-use Rattle.parser.specs.declared.Read.TheVariants.{Done, Refused}
+use Rattle.parser.specs.Results.{Read}
+use Rattle.parser.specs.Results.{StmtRead}
 use Rattle.parser.specs.declared.Stmt.{Stmt}
+use Rattle.parser.specs.Results.{ArmRead}
 use Rattle.parser.specs.declared.Arm.{Arm}
 use Rattle.parser.specs.Places.{word_of, start_of, end_of, next_of, passed, later, unused, expected, under, refusal_at, node_of, put_over, plain_row}
 use Rattle.parser.specs.Counted.{counts, headed, Alike}
@@ -42,8 +43,8 @@ Anyhow s n h t k r t' = (d : Counts) → Answers (the s d n h t) k r t'
 
 -- A part of the phrase f: with the answer `Done m h`, G tells how far f has come; with `Refused e`, f is refused.
 abbrev pub PartlyIs : Phrase → Read → List ℕ → (Node → Here → Type 0) → Type 0
-PartlyIs f (Done m h) t G = G m h
-PartlyIs f (Refused e) t G = Stopped f e t
+PartlyIs f (Ok (m, h)) t G = G m h
+PartlyIs f (Err e) t G = Stopped f e t
 
 pub record Partly (f : Phrase) (r : Read) (t : List ℕ) (G : Node → Here → Type 0) : Type 0 where
   pub is : PartlyIs f r t G
@@ -54,7 +55,7 @@ abbrev pub item_row : Here → Row
 item_row h = plain_row kinds.NAME (start_of h) (end_of h) 0
 
 abbrev pub wrote : List ℕ → Here → Row → Read
-wrote s h r = Done (node_of r) (later (passed s h))
+wrote s h r = Ok (node_of r, later (passed s h))
 
 -- The same at one of the words that the lexer takes, as every reader stands that asks for it.
 abbrev pub Wrote : List ℕ → Here → List ℕ → Row → ℕ → Read → List ℕ → Type 0
@@ -151,13 +152,13 @@ over_row starts details k c n m = record { kind = k; start = get_or starts n 0; 
 
 unfoldable pub over_read : List ℕ → List ℕ → ℕ → ℕ → ℕ → Read → Read
 over_read starts details k c zero r = r
-over_read starts details k c (suc n) (Done m h) = over_read starts details k c n (Done (node_of (over_row starts details k c n m)) (later h))
-over_read starts details k c (suc n) (Refused e) = Refused e
+over_read starts details k c (suc n) (Ok (m, h)) = over_read starts details k c n (Ok (node_of (over_row starts details k c n m), later h))
+over_read starts details k c (suc n) (Err e) = Err e
 
 unfoldable pub over_table : List ℕ → List ℕ → List ℕ → ℕ → ℕ → ℕ → Read → List ℕ → List ℕ
 over_table starts sinces details k c zero r t = t
-over_table starts sinces details k c (suc n) (Done m h) t = over_table starts sinces details k c n (Done (node_of (over_row starts details k c n m)) (later h)) (put_over t h (over_row starts details k c n m) (get_or sinces n 0))
-over_table starts sinces details k c (suc n) (Refused e) t = t
+over_table starts sinces details k c (suc n) (Ok (m, h)) t = over_table starts sinces details k c n (Ok (node_of (over_row starts details k c n m), later h)) (put_over t h (over_row starts details k c n m) (get_or sinces n 0))
+over_table starts sinces details k c (suc n) (Err e) t = t
 
 -- An `if`, `while`, `for` or `match` from behind that word, which starts at `start`, to its end; ss is what its rule asks for then.
 abbrev pub Headed : List Symbol → List ℕ → Here → List ℕ → Limits → ℕ → Read → List ℕ → Type 0
@@ -176,8 +177,8 @@ after_match = a (EXPR no_records) ∷ opens open_brace ∷ behind ARMS ∷ close
 pub record NamedIn (s : List ℕ) (h : Here) (t : List ℕ) (r : Read) (t' : List ℕ) : Type 0 where
   pub first : Read
   pub name : Anyhow s NAME h t 3 first t'
-  pub stops : {e : Refusal} → first ≡ Refused e → r ≡ first
-  pub goes : {m : Node} {z : Here} → first ≡ Done m z → r ≡ expected s z 'in'
+  pub stops : {e : Refusal} → first ≡ Err e → r ≡ first
+  pub goes : {m : Node} {z : Here} → first ≡ Ok (m, z) → r ≡ expected s z 'in'
 
 -- The expr and the block of one of the first three; the block behind an `else`; past the `if` there.
 abbrev pub Tested : List ℕ → Here → List ℕ → Limits → Read → List ℕ → Type 0
@@ -206,12 +207,12 @@ pub record Armed (f : Phrase) (ks : List Left) (h : Here) (t : List ℕ) : Type 
   pub node : Node
   pub around : Around f ks h t node 1
 
-abbrev pub ArmIs : Phrase → Arm → List ℕ → Type 0
-ArmIs f (Arm.Followed h) t = Armed f (at f.counts (a ARMS ∷ []) ∷ []) h t
-ArmIs f (Arm.Last h) t = Armed f [] h t
-ArmIs f (Arm.Refused e) t = Stopped f e t
+abbrev pub ArmIs : Phrase → ArmRead → List ℕ → Type 0
+ArmIs f (Ok (Arm.Followed h)) t = Armed f (at f.counts (a ARMS ∷ []) ∷ []) h t
+ArmIs f (Ok (Arm.Last h)) t = Armed f [] h t
+ArmIs f (Err e) t = Stopped f e t
 
-pub record OneArm (f : Phrase) (r : Arm) (t : List ℕ) : Type 0 where
+pub record OneArm (f : Phrase) (r : ArmRead) (t : List ℕ) : Type 0 where
   pub is : ArmIs f r t
 
 abbrev pub Bodied : List ℕ → Here → List ℕ → Limits → Read → List ℕ → Type 0
@@ -233,39 +234,39 @@ pub record Ended (f : Phrase) (d : Counts) (ks : List Left) (x c k n : ℕ) (h :
   pub sign : Option ℕ
   pub going : Going f (at d (a n ∷ []) ∷ ks) h t (many x end (c + 1) sign) 0 k
 
-abbrev pub StatementIs : Phrase → Counts → List Left → ℕ → ℕ → ℕ → Stmt → List ℕ → Type 0
-StatementIs f d ks x c k (Stmt.Ended h) t = Ended f d ks x c k STATEMENTS h t
-StatementIs f d ks x c k (Stmt.Four h) t = Ended f d ks x c k AFTER_FOUR h t × (word_of h ≢ semicolon)
-StatementIs f d ks x c k (Stmt.Last h) t = Ended f d ks x c k AFTER_EXPR h t × (word_of h ≢ semicolon)
-StatementIs f d ks x c k (Stmt.Refused e) t = Stopped f e t
+abbrev pub StatementIs : Phrase → Counts → List Left → ℕ → ℕ → ℕ → StmtRead → List ℕ → Type 0
+StatementIs f d ks x c k (Ok (Stmt.Ended h)) t = Ended f d ks x c k STATEMENTS h t
+StatementIs f d ks x c k (Ok (Stmt.Four h)) t = Ended f d ks x c k AFTER_FOUR h t × (word_of h ≢ semicolon)
+StatementIs f d ks x c k (Ok (Stmt.Last h)) t = Ended f d ks x c k AFTER_EXPR h t × (word_of h ≢ semicolon)
+StatementIs f d ks x c k (Err e) t = Stopped f e t
 
-pub record OneStatement (f : Phrase) (d : Counts) (ks : List Left) (x c k : ℕ) (r : Stmt) (t : List ℕ) : Type 0 where
+pub record OneStatement (f : Phrase) (d : Counts) (ks : List Left) (x c k : ℕ) (r : StmtRead) (t : List ℕ) : Type 0 where
   pub is : StatementIs f d ks x c k r t
 
-abbrev pub Statement : List ℕ → Here → List ℕ → Limits → Stmt → List ℕ → Type 0
+abbrev pub Statement : List ℕ → Here → List ℕ → Limits → StmtRead → List ℕ → Type 0
 Statement s h t l r t' =
     (f : Phrase) (d : Counts) (ks : List Left) (x e c k : ℕ) (w : Option ℕ) → f.text ≡ s → d ≡ counts l
     → Going f (at d (a STATEMENT ∷ []) ∷ ks) h t (many x e c w) 0 k
     → OneStatement f d ks x c k r t'
 
 -- A reader that has read a statement stands further on than before.
-abbrev pub BeyondStatement : List ℕ → Here → Stmt → Type 0
-BeyondStatement s h (Stmt.Ended z) = Stands s z × (next_of h < next_of z)
-BeyondStatement s h (Stmt.Four z) = Stands s z × (next_of h < next_of z)
-BeyondStatement s h (Stmt.Last z) = Stands s z × (next_of h < next_of z)
-BeyondStatement s h (Stmt.Refused e) = Prim.Unit {0}
+abbrev pub BeyondStatement : List ℕ → Here → StmtRead → Type 0
+BeyondStatement s h (Ok (Stmt.Ended z)) = Stands s z × (next_of h < next_of z)
+BeyondStatement s h (Ok (Stmt.Four z)) = Stands s z × (next_of h < next_of z)
+BeyondStatement s h (Ok (Stmt.Last z)) = Stands s z × (next_of h < next_of z)
+BeyondStatement s h (Err e) = Prim.Unit {0}
 
 -- A reader that has answered `Done` stands further on than before.
 abbrev pub Beyond : List ℕ → Here → Read → Type 0
-Beyond s h (Done m z) = Stands s z × (next_of h < next_of z)
-Beyond s h (Refused e) = Prim.Unit {0}
+Beyond s h (Ok (m, z)) = Stands s z × (next_of h < next_of z)
+Beyond s h (Err e) = Prim.Unit {0}
 
 -- A whole source: its rows and where they stand in the table, or the refusal that document 01 determines (1 where the
 -- source is too long). `tests`: by the old grammar, in which `test` is a declaration (C-22).
 abbrev pub FinishedIs : Bool → Bool → List ℕ → List ℕ → Read → List ℕ → Type 0
-FinishedIs tests tree s t (Done m h) t' = (rs : List grammar.Row) × answers.Answers (source s) tests tree (length s) 0 (accepted rs) × (h.rows ≡ length rs) × (t' ≡ store t 0 rs)
-FinishedIs tests tree s t (Refused e) t' = answers.Answers (source s) tests tree (length s) 0 (refused (record { number = e.number; start = e.start; end = e.end })) × (length t' ≡ length t)
+FinishedIs tests tree s t (Ok (m, h)) t' = (rs : List grammar.Row) × answers.Answers (source s) tests tree (length s) 0 (accepted rs) × (h.rows ≡ length rs) × (t' ≡ store t 0 rs)
+FinishedIs tests tree s t (Err e) t' = answers.Answers (source s) tests tree (length s) 0 (refused (record { number = e.number; start = e.start; end = e.end })) × (length t' ≡ length t)
 
 pub record Finished (tests tree : Bool) (s t : List ℕ) (r : Read) (t' : List ℕ) : Type 0 where
   pub short : length s ≤ 65535 → FinishedIs tests tree s t r t'
-  pub long : T (ltb 65535 (length s)) → (r ≡ Refused (refusal_at 1 65535 65535)) × (t' ≡ t)
+  pub long : T (ltb 65535 (length s)) → (r ≡ Err (refusal_at 1 65535 65535)) × (t' ≡ t)

@@ -25,34 +25,13 @@ fn constant(s: &[u8], table: &mut [u64], here: Here, limits: Limits) -> Read
     ensures { Answers (the s.now (counts limits) DECLARATION here table.old) 1 result table.new }
 {
     let after = limits.plain();
-    let r = take(s, here);
-    let Read::Done(word, next) = r else {
-        return r;
-    };
-    let r = identifier(s, table, next);
-    let Read::Done(_, next) = r else {
-        return r;
-    };
-    let r = expect(s, next, word::COLON);
-    let Read::Done(_, next) = r else {
-        return r;
-    };
-    let r = type_expr(s, table, next, after);
-    let Read::Done(_, next) = r else {
-        return r;
-    };
-    let r = expect(s, next, word::EQ);
-    let Read::Done(_, next) = r else {
-        return r;
-    };
-    let r = expr(s, table, next, after, true);
-    let Read::Done(_, next) = r else {
-        return r;
-    };
-    let r = expect(s, next, word::SEMI_COLON);
-    let Read::Done(ending, next) = r else {
-        return r;
-    };
+    let (word, next) = take(s, here)?;
+    let (_, next) = identifier(s, table, next)?;
+    let (_, next) = expect(s, next, word::COLON)?;
+    let (_, next) = type_expr(s, table, next, after)?;
+    let (_, next) = expect(s, next, word::EQ)?;
+    let (_, next) = expr(s, table, next, after, true)?;
+    let (ending, next) = expect(s, next, word::SEMI_COLON)?;
     finish(
         table,
         plain_row(kind::CONST, word.start, ending.end, 3),
@@ -67,26 +46,11 @@ fn function(s: &[u8], table: &mut [u64], here: Here, limits: Limits) -> Read
     ensures { Answers (the s.now (counts limits) DECLARATION here table.old) 1 result table.new }
 {
     let after = limits.plain();
-    let r = take(s, here);
-    let Read::Done(word, next) = r else {
-        return r;
-    };
-    let r = identifier(s, table, next);
-    let Read::Done(_, next) = r else {
-        return r;
-    };
-    let r = typed_names(s, table, next, after, word::ROUND_LEFT);
-    let Read::Done(params, next) = r else {
-        return r;
-    };
-    let r = typing(s, table, next, after, word::ARROW);
-    let Read::Done(ty, next) = r else {
-        return r;
-    };
-    let r = block(s, table, next, after);
-    let Read::Done(body, next) = r else {
-        return r;
-    };
+    let (word, next) = take(s, here)?;
+    let (_, next) = identifier(s, table, next)?;
+    let (params, next) = typed_names(s, table, next, after, word::ROUND_LEFT)?;
+    let (ty, next) = typing(s, table, next, after, word::ARROW)?;
+    let (body, next) = block(s, table, next, after)?;
     let row = valued_row(
         kind::FN,
         word.start,
@@ -103,22 +67,10 @@ fn filter_map(s: &[u8], table: &mut [u64], here: Here, limits: Limits) -> Read
     ensures { Answers (the s.now (counts limits) DECLARATION here table.old) 1 result table.new }
 {
     let after = limits.plain();
-    let r = take(s, here);
-    let Read::Done(word, next) = r else {
-        return r;
-    };
-    let r = identifier(s, table, next);
-    let Read::Done(_, next) = r else {
-        return r;
-    };
-    let r = typed_names(s, table, next, after, word::ROUND_LEFT);
-    let Read::Done(params, next) = r else {
-        return r;
-    };
-    let r = block(s, table, next, after);
-    let Read::Done(body, next) = r else {
-        return r;
-    };
+    let (word, next) = take(s, here)?;
+    let (_, next) = identifier(s, table, next)?;
+    let (params, next) = typed_names(s, table, next, after, word::ROUND_LEFT)?;
+    let (body, next) = block(s, table, next, after)?;
     let row = detail_row(
         kind::FILTER,
         word.start,
@@ -142,18 +94,9 @@ fn test(s: &[u8], table: &mut [u64], here: Here, limits: Limits) -> Read
     ensures { Answers (the s.now (counts limits) DECLARATION here table.old) 1 result table.new }
 {
     let after = limits.plain();
-    let r = take(s, here);
-    let Read::Done(word, next) = r else {
-        return r;
-    };
-    let r = identifier(s, table, next);
-    let Read::Done(_, next) = r else {
-        return r;
-    };
-    let r = block(s, table, next, after);
-    let Read::Done(body, next) = r else {
-        return r;
-    };
+    let (word, next) = take(s, here)?;
+    let (_, next) = identifier(s, table, next)?;
+    let (body, next) = block(s, table, next, after)?;
     finish(
         table,
         plain_row(kind::TEST, word.start, body.end, 2),

@@ -6,15 +6,14 @@ ghost use Rattle.entry.specs.Puts.{Puts};
 use chars::Answer;
 use entry::{answer, answer_put, refused};
 use rows::WIDTH;
-use tokens::Whole;
 
 // A source to its tree. The table is handed on without what is left over behind its rows: it is none to compare with.
 fn read_tree(s: &[u8], table: &mut [u64], tests: bool) -> Answer
     ensures { Permitted tests true s.now (length table.old) result table.new }
 {
     match tokens::check_source(s) {
-        Whole::Refused(why) => refused(table, why),
-        Whole::Fine => {
+        Err(why) => refused(table, why),
+        Ok(()) => {
             let whole = table.len() / WIDTH * WIDTH;
             let r = super::tree(s, &mut table[..whole], tests);
             answer(table, s.len(), r)
@@ -41,8 +40,8 @@ pub fn expression(s: &[u8], table: &mut [u64]) -> Answer
     ensures { Permitted false false s.now (length table.old) result table.new }
 {
     match tokens::check_source(s) {
-        Whole::Refused(why) => refused(table, why),
-        Whole::Fine => {
+        Err(why) => refused(table, why),
+        Ok(()) => {
             let whole = table.len() / WIDTH * WIDTH;
             let r = super::expression(s, &mut table[..whole]);
             answer(table, s.len(), r)
@@ -55,8 +54,8 @@ pub fn put_rows(s: &[u8], table: &mut [u64]) -> Answer
     ensures { Puts true s.now table.old result table.new }
 {
     match tokens::check_source(s) {
-        Whole::Refused(why) => refused(table, why),
-        Whole::Fine => {
+        Err(why) => refused(table, why),
+        Ok(()) => {
             let r = super::tree(s, table, true);
             answer_put(table, s.len(), r)
         }

@@ -20,28 +20,19 @@ fn import_path(s: &[u8], table: &mut [u64], at: Here, limits: Limits) -> Read
     requires { Stands s.now at }
     ensures { Answers (the s.now (counts limits) IMPORTPATH at table.old) 2 result table.new }
 {
-    let r = path_item(s, table, at);
-    let Read::Done(first, next) = r else {
-        return r;
-    };
+    let (first, next) = path_item(s, table, at)?;
     let mut end = first.end;
     let mut here = next;
     let mut children: u64 = 1;
     while here.word() == word::PERIOD {
-        let r = take(s, here);
-        let Read::Done(_, behind) = r else {
-            return r;
-        };
+        let (_, behind) = take(s, here)?;
         if behind.word() == word::CURLY_LEFT {
             return import_group(s, table, behind, limits, first.start, children, at.rows);
         }
         if !is_path_item(behind.word()) {
             return unusable(behind);
         }
-        let r = path_item(s, table, behind);
-        let Read::Done(found, next) = r else {
-            return r;
-        };
+        let (found, next) = path_item(s, table, behind)?;
         end = found.end;
         here = next;
         children += 1;
@@ -68,26 +59,17 @@ fn import_group(
     requires { (Stands s.now at) × (word_of at ≡ open_brace) × (items ≤ at.rows) }
     ensures { Grouped s.now at table.old limits start items since result table.new }
 {
-    let r = open(s, at, word::CURLY_LEFT, limits);
-    let Read::Done(_, inside) = r else {
-        return r;
-    };
+    let (_, inside) = open(s, at, word::CURLY_LEFT, limits)?;
     let inner = limits.opened();
     let mut here = inside;
     let mut children = items;
     loop {
-        let r = import_path(s, table, here, inner);
-        let Read::Done(_, next) = r else {
-            return r;
-        };
+        let (_, next) = import_path(s, table, here, inner)?;
         children += 1;
         if next.word() != word::COMMA {
             return braced(s, table, next, kind::IMPORT_PATH, start, children, 0, since);
         }
-        let r = take(s, next);
-        let Read::Done(_, after) = r else {
-            return r;
-        };
+        let (_, after) = take(s, next)?;
         here = after;
     }
 }
@@ -97,29 +79,17 @@ pub fn import(s: &[u8], table: &mut [u64], here: Here, limits: Limits) -> Read
     requires { (Stands s.now here) × (word_of here ≡ 'import') }
     ensures { Answers (the s.now (counts limits) IMPORT here table.old) 1 result table.new }
 {
-    let r = take(s, here);
-    let Read::Done(_, next) = r else {
-        return r;
-    };
-    let r = imported(s, table, next, limits.plain());
-    let Read::Done(found, next) = r else {
-        return r;
-    };
-    let r = expect(s, next, word::SEMI_COLON);
-    let Read::Done(_, behind) = r else {
-        return r;
-    };
-    Read::Done(found, behind)
+    let (_, next) = take(s, here)?;
+    let (found, next) = imported(s, table, next, limits.plain())?;
+    let (_, behind) = expect(s, next, word::SEMI_COLON)?;
+    Ok((found, behind))
 }
 
 fn imported(s: &[u8], table: &mut [u64], here: Here, limits: Limits) -> Read
     requires { Stands s.now here }
     ensures { Answers (the s.now (counts limits) IMPORTED here table.old) 1 result table.new }
 {
-    let r = import_path(s, table, here, limits);
-    let Read::Done(found, next) = r else {
-        return r;
-    };
+    let (found, next) = import_path(s, table, here, limits)?;
     finish(
         table,
         plain_row(kind::IMPORT, found.start, found.end, 1),

@@ -20,10 +20,10 @@ use parser::{
     Arm, Here, Limits, Node, Read, Stmt, close, deeper, expect, finish, look, open, piece,
     plain_row, refuse, take, unusable,
 };
-use parts::{around, braced, detail_row, ended, last_arm, part, valued_row};
+use parts::{around, braced, detail_row, ended, part, valued_row};
 use patterns::pattern;
 use rows::{Row, kind};
-use tokens::{Cursor, Step, word};
+use tokens::{Cursor, Refusal, word};
 use types::{question, typing};
 use values::Literal;
 use words::{
@@ -66,24 +66,15 @@ fn assign_expr(s: &[u8], table: &mut [u64], here: Here, limits: Limits, records:
     if !can_begin_expr(here.word()) {
         return unusable(here);
     }
-    let r = binop_expr(s, table, here, limits, records, 1);
-    let Read::Done(left, sign) = r else {
-        return r;
-    };
+    let (left, sign) = binop_expr(s, table, here, limits, records, 1)?;
     if !is_assign(sign.word()) {
-        return r;
+        return Ok((left, sign));
     }
     if left.kind != kind::PATH {
         return refuse(refusal::NO_PATH, left.start, left.end);
     }
-    let r = take(s, sign);
-    let Read::Done(_, next) = r else {
-        return r;
-    };
-    let r = binop_expr(s, table, next, limits.plain(), records, 1);
-    let Read::Done(right, next) = r else {
-        return r;
-    };
+    let (_, next) = take(s, sign)?;
+    let (right, next) = binop_expr(s, table, next, limits.plain(), records, 1)?;
     let row = detail_row(
         kind::ASSIGN,
         left.start,
@@ -101,6 +92,7 @@ fn return_expr(s: &[u8], table: &mut [u64], at: Here, limits: Limits, records: b
     requires { (Stands s.now at) × (T (one_of (word_of at) return_words)) }
     ensures { Answers (the s.now (counts limits) (EXPR records) at table.old) 1 result table.new }
 {
+    // kept: three arrays of 224 bytes and none of structs, which are 256: each call of the cycle has them in its frame.
     let mut starts: [u16; 32] = [0; 32];
     let mut sinces: [u32; 32] = [0; 32];
     let mut details: [u8; 32] = [0; 32];
@@ -108,10 +100,7 @@ fn return_expr(s: &[u8], table: &mut [u64], at: Here, limits: Limits, records: b
     let mut here = at;
     let mut inner = limits;
     loop {
-        let r = deeper(s, here, inner.signs);
-        let Read::Done(word, next) = r else {
-            return r;
-        };
+        let (word, next) = deeper(s, here, inner.signs)?;
         let detail = return_detail(here.word());
         inner = inner.signed();
         if ends_return(next.word(), records) {
@@ -120,10 +109,7 @@ fn return_expr(s: &[u8], table: &mut [u64], at: Here, limits: Limits, records: b
             return around(table, &starts, &sinces, &details, count, kind::RETURN, 1, r);
         }
         if return_detail(next.word()) == 0 {
-            let r = assign_expr(s, table, next, inner, records);
-            let Read::Done(value, behind) = r else {
-                return r;
-            };
+            let (value, behind) = assign_expr(s, table, next, inner, records)?;
             let row = detail_row(kind::RETURN, word.start, value.end, 1, detail);
             let r = finish(table, row, behind, here.rows);
             return around(table, &starts, &sinces, &details, count, kind::RETURN, 1, r);
@@ -143,12 +129,9 @@ fn binop_expr(s: &[u8], table: &mut [u64], at: Here, limits: Limits, records: bo
     requires { (Stands s.now at) × ((1 ≤ up) × (up ≤ 5)) }
     ensures { Answers (the s.now (counts limits) (LEVEL up records) at table.old) 1 result table.new }
 {
-    let r = factor(s, table, at, limits, records, TIGHTEST);
-    let Read::Done(first, next) = r else {
-        return r;
-    };
+    let (first, next) = factor(s, table, at, limits, records, TIGHTEST)?;
     if binary_level(next.word()) < up {
-        return r;
+        return Ok((first, next));
     }
     let after = limits.plain();
     let mut left = first;
@@ -157,18 +140,15 @@ fn binop_expr(s: &[u8], table: &mut [u64], at: Here, limits: Limits, records: bo
     loop {
         let sign = binary_level(here.word());
         if (sign < up) | (tight < sign) {
-            return Read::Done(left, here);
+            return Ok((left, here));
         }
         let step = here.step;
-        let Step::Taken(word, _, next) = step else {
+        let Ok((word, _, next)) = step else {
             return unusable(here);
         };
         let behind = look(s, next, here.rows);
         let right = factor(s, table, behind, after, records, sign);
-        let r = joined(table, left, right, word, at.rows);
-        let Read::Done(both, next) = r else {
-            return r;
-        };
+        let (both, next) = joined(table, left, right, word, at.rows)?;
         left = both;
         here = next;
         tight = chained_level(sign);
@@ -179,9 +159,7 @@ fn binop_expr(s: &[u8], table: &mut [u64], at: Here, limits: Limits, records: bo
 fn joined(table: &mut [u64], left: Node, right: Read, word: u64, since: usize) -> Read
     ensures { (result ≡ joined_read left word right) × (table.new ≡ joined_table left word since right table.old) }
 {
-    let Read::Done(found, next) = right else {
-        return right;
-    };
+    let (found, next) = right?;
     let row = detail_row(kind::BINARY, left.start, found.end, 2, binary_detail(word));
     finish(table, row, next, since)
 }
@@ -233,7 +211,7 @@ fn operand(s: &[u8], table: &mut [u64], at: Here, limits: Limits, records: bool)
     let mut start = 0;
     if signed {
         let step = at.step;
-        let Step::Taken(_, begin, next) = step else {
+        let Ok((_, begin, next)) = step else {
             return unusable(at);
         };
         if limits.signs == 0 {
@@ -256,9 +234,7 @@ fn operand(s: &[u8], table: &mut [u64], at: Here, limits: Limits, records: bool)
     if !signed {
         return r;
     }
-    let Read::Done(found, next) = r else {
-        return r;
-    };
+    let (found, next) = r?;
     let row = plain_row(sign_kind(sign), start, found.end, 1);
     finish(table, row, next, at.rows)
 }
@@ -269,24 +245,18 @@ fn access(s: &[u8], table: &mut [u64], at: Here, limits: Limits, records: bool) 
     requires { (Stands s.now at) × ((word_of at ≢ '!') × (word_of at ≢ '-')) }
     ensures { Answers (the s.now (counts limits) (OPERAND records) at table.old) 1 result table.new }
 {
-    let r = atom(s, table, at, limits, records);
-    let Read::Done(first, next) = r else {
-        return r;
-    };
+    let (first, next) = atom(s, table, at, limits, records)?;
     if !is_postfix(next.word()) {
-        return r;
+        return Ok((first, next));
     }
     let mut left = first;
     let mut here = next;
     while is_postfix(here.word()) {
-        let r = postfix(s, table, left, here, limits, at.rows);
-        let Read::Done(found, next) = r else {
-            return r;
-        };
+        let (found, next) = postfix(s, table, left, here, limits, at.rows)?;
         left = found;
         here = next;
     }
-    Read::Done(left, here)
+    Ok((left, here))
 }
 
 // What may stand behind an atom: `?`, `( list of exprs )`, `. name`.
@@ -308,10 +278,7 @@ fn postfix(
     if here.word() != word::ROUND_LEFT {
         return field_access(s, table, left, here, since);
     }
-    let r = args(s, table, here, limits);
-    let Read::Done(list, next) = r else {
-        return r;
-    };
+    let (list, next) = arguments(s, table, here, limits)?;
     let row = plain_row(kind::CALL, left.start, list.end, list.children + 1);
     finish(table, row, next, since)
 }
@@ -320,14 +287,8 @@ fn field_access(s: &[u8], table: &mut [u64], left: Node, here: Here, since: usiz
     requires { (Stands s.now here) × (word_of here ≡ dot) }
     ensures { (AnyBehind s.now left here table.old since result table.new) × (onward here result) }
 {
-    let r = take(s, here);
-    let Read::Done(_, next) = r else {
-        return r;
-    };
-    let r = identifier(s, table, next);
-    let Read::Done(name, next) = r else {
-        return r;
-    };
+    let (_, next) = take(s, here)?;
+    let (name, next) = identifier(s, table, next)?;
     finish(
         table,
         plain_row(kind::ACCESS, left.start, name.end, 2),
@@ -337,31 +298,23 @@ fn field_access(s: &[u8], table: &mut [u64], left: Node, here: Here, since: usiz
 }
 
 // `( list of exprs )`
+// kept: no `separated` over closures for this and the other lists in brackets; document 01 asks for one list rule per kind of item, with one proof.
 #[cycle(exprs)]
-fn args(s: &[u8], table: &mut [u64], at: Here, limits: Limits) -> Read
+fn arguments(s: &[u8], table: &mut [u64], at: Here, limits: Limits) -> Read
     requires { Stands s.now at }
     ensures { (Listed s.now at table.old limits open_paren EXPRS close_paren result table.new) × (onward at result) × (few result) }
 {
-    let r = open(s, at, word::ROUND_LEFT, limits);
-    let Read::Done(opening, inside) = r else {
-        return r;
-    };
+    let (opening, inside) = open(s, at, word::ROUND_LEFT, limits)?;
     let inner = limits.opened();
     let mut here = inside;
     let mut children: u64 = 0;
     while can_begin_expr(here.word()) {
-        let r = expr(s, table, here, inner, true);
-        let Read::Done(_, next) = r else {
-            return r;
-        };
+        let (_, next) = expr(s, table, here, inner, true)?;
         children += 1;
         if next.word() != word::COMMA {
             return close(s, next, word::ROUND_RIGHT, opening.start, children);
         }
-        let r = take(s, next);
-        let Read::Done(_, after) = r else {
-            return r;
-        };
+        let (_, after) = take(s, next)?;
         here = after;
     }
     close(s, here, word::ROUND_RIGHT, opening.start, children)
@@ -401,14 +354,16 @@ fn literal(s: &[u8], table: &mut [u64], here: Here) -> Read
     ensures { Anyhow s.now LITERAL here table.old 1 result table.new }
 {
     let step = here.step;
-    let Step::Taken(word, start, cursor) = step else {
+    let Ok((word, start, cursor)) = step else {
         return unusable(here);
     };
-    let Literal::Is {
-        kind,
-        value,
-        detail,
-    } = values::literal_at(s, tokens::code_of(word), start, cursor.at)
+    let Some(
+        Literal {
+            kind,
+            value,
+            detail,
+        },
+    ) = values::literal_at(s, tokens::code_of(word), start, cursor.at)
     else {
         return refuse(refusal::VALUELESS, start, cursor.at);
     };
@@ -430,29 +385,20 @@ fn f_string(s: &[u8], table: &mut [u64], at: Here, limits: Limits) -> Read
     ensures { Answers (the s.now (counts limits) F_STRING at table.old) 1 result table.new }
 {
     let step = at.step;
-    let Step::Refused(quote) = step else {
+    let Err(quote) = step else {
         return unusable(at);
     };
     let mut here = at;
     let mut children: u64 = 0;
     loop {
-        let r = piece(s, table, here);
-        let Read::Done(text, next) = r else {
-            return r;
-        };
+        let (text, next) = piece(s, table, here)?;
         children += text.children;
         if text.kind == word::LAST_TEXT {
             let row = plain_row(kind::F_STRING, quote.start, text.end, children);
             return finish(table, row, next, at.rows);
         }
-        let r = open(s, next, word::CURLY_LEFT, limits);
-        let Read::Done(_, inside) = r else {
-            return r;
-        };
-        let r = expr(s, table, inside, limits.opened(), true);
-        let Read::Done(_, next) = r else {
-            return r;
-        };
+        let (_, inside) = open(s, next, word::CURLY_LEFT, limits)?;
+        let (_, next) = expr(s, table, inside, limits.opened(), true)?;
         if next.word() != word::CURLY_RIGHT {
             return unusable(next);
         }
@@ -467,20 +413,14 @@ fn path_expr(s: &[u8], table: &mut [u64], here: Here, limits: Limits, records: b
     requires { (Stands s.now here) × (T (one_of (word_of here) path_items)) }
     ensures { Atom s.now here table.old limits records result table.new }
 {
-    let r = path(s, table, here);
-    let Read::Done(found, next) = r else {
-        return r;
-    };
+    let (found, next) = path(s, table, here)?;
     if !records {
-        return r;
+        return Ok((found, next));
     }
     if next.word() != word::CURLY_LEFT {
-        return r;
+        return Ok((found, next));
     }
-    let r = open(s, next, word::CURLY_LEFT, limits);
-    let Read::Done(_, inside) = r else {
-        return r;
-    };
+    let (_, inside) = open(s, next, word::CURLY_LEFT, limits)?;
     record(s, table, inside, limits.opened(), found.start, 1, here.rows)
 }
 
@@ -490,19 +430,10 @@ fn parens(s: &[u8], table: &mut [u64], here: Here, limits: Limits) -> Read
     requires { Stands s.now here }
     ensures { Answers (the s.now (counts limits) PARENS here table.old) 1 result table.new }
 {
-    let r = open(s, here, word::ROUND_LEFT, limits);
-    let Read::Done(_, inside) = r else {
-        return r;
-    };
-    let r = expr(s, table, inside, limits.opened(), true);
-    let Read::Done(found, next) = r else {
-        return r;
-    };
-    let r = expect(s, next, word::ROUND_RIGHT);
-    let Read::Done(_, behind) = r else {
-        return r;
-    };
-    Read::Done(found, behind)
+    let (_, inside) = open(s, here, word::ROUND_LEFT, limits)?;
+    let (found, next) = expr(s, table, inside, limits.opened(), true)?;
+    let (_, behind) = expect(s, next, word::ROUND_RIGHT)?;
+    Ok((found, behind))
 }
 
 // A record where `{ name :` stands, else a block. Behind `{` and a name one token is looked at, and dropped.
@@ -511,18 +442,12 @@ fn braces(s: &[u8], table: &mut [u64], here: Here, limits: Limits) -> Read
     requires { Stands s.now here }
     ensures { Answers (the s.now (counts limits) BRACES here table.old) 1 result table.new }
 {
-    let r = open(s, here, word::CURLY_LEFT, limits);
-    let Read::Done(opening, inside) = r else {
-        return r;
-    };
+    let (opening, inside) = open(s, here, word::CURLY_LEFT, limits)?;
     let inner = limits.opened();
     if !is_name(inside.word()) {
         return stmts(s, table, inside, inner, opening.start);
     }
-    let r = take(s, inside);
-    let Read::Done(_, behind) = r else {
-        return r;
-    };
+    let (_, behind) = take(s, inside)?;
     if behind.word() == word::COLON {
         return record(s, table, inside, inner, opening.start, 0, here.rows);
     }
@@ -530,6 +455,7 @@ fn braces(s: &[u8], table: &mut [u64], here: Here, limits: Limits) -> Read
 }
 
 // The fields of a record from behind its `{` on; `paths` is 1 if a path stands before that.
+// kept: no `separated` over closures for this and the other lists in brackets; document 01 asks for one list rule per kind of item, with one proof.
 #[cycle(exprs)]
 fn record(
     s: &[u8],
@@ -546,18 +472,12 @@ fn record(
     let mut here = at;
     let mut children = paths;
     while is_name(here.word()) {
-        let r = field(s, table, here, limits);
-        let Read::Done(_, next) = r else {
-            return r;
-        };
+        let (_, next) = field(s, table, here, limits)?;
         children += 1;
         if next.word() != word::COMMA {
             return braced(s, table, next, kind::RECORD, start, children, paths, since);
         }
-        let r = take(s, next);
-        let Read::Done(_, after) = r else {
-            return r;
-        };
+        let (_, after) = take(s, next)?;
         here = after;
     }
     braced(s, table, here, kind::RECORD, start, children, paths, since)
@@ -569,18 +489,9 @@ fn field(s: &[u8], table: &mut [u64], here: Here, limits: Limits) -> Read
     requires { (Stands s.now here) × (limits.signs ≡ 32) }
     ensures { Answers (the s.now (counts limits) FIELD here table.old) 1 result table.new }
 {
-    let r = identifier(s, table, here);
-    let Read::Done(name, next) = r else {
-        return r;
-    };
-    let r = expect(s, next, word::COLON);
-    let Read::Done(_, next) = r else {
-        return r;
-    };
-    let r = expr(s, table, next, limits.plain(), true);
-    let Read::Done(value, next) = r else {
-        return r;
-    };
+    let (name, next) = identifier(s, table, here)?;
+    let (_, next) = expect(s, next, word::COLON)?;
+    let (value, next) = expr(s, table, next, limits.plain(), true)?;
     finish(
         table,
         plain_row(kind::FIELD, name.start, value.end, 2),
@@ -599,10 +510,7 @@ fn four(s: &[u8], table: &mut [u64], here: Here, limits: Limits) -> Read
         return unusable(here);
     }
     let limits = limits.unchained();
-    let r = deeper(s, here, limits.heads);
-    let Read::Done(word, next) = r else {
-        return r;
-    };
+    let (word, next) = deeper(s, here, limits.heads)?;
     let start = word.start;
     let since = here.rows;
     if here.word() == word::IF {
@@ -612,10 +520,7 @@ fn four(s: &[u8], table: &mut [u64], here: Here, limits: Limits) -> Read
         return match_expr(s, table, next, limits, start);
     }
     if here.word() == word::WHILE {
-        let r = cond(s, table, next, limits);
-        let Read::Done(body, next) = r else {
-            return r;
-        };
+        let (body, next) = cond(s, table, next, limits)?;
         return finish(
             table,
             plain_row(kind::WHILE, start, body.end, 2),
@@ -623,14 +528,8 @@ fn four(s: &[u8], table: &mut [u64], here: Here, limits: Limits) -> Read
             since,
         );
     }
-    let r = name_in(s, table, next);
-    let Read::Done(_, next) = r else {
-        return r;
-    };
-    let r = cond(s, table, next, limits);
-    let Read::Done(body, next) = r else {
-        return r;
-    };
+    let (_, next) = name_in(s, table, next)?;
+    let (body, next) = cond(s, table, next, limits)?;
     finish(table, plain_row(kind::FOR, start, body.end, 3), next, since)
 }
 
@@ -639,10 +538,7 @@ fn name_in(s: &[u8], table: &mut [u64], here: Here) -> Read
     requires { Stands s.now here }
     ensures { NamedIn s.now here table.old result table.new }
 {
-    let r = identifier(s, table, here);
-    let Read::Done(_, next) = r else {
-        return r;
-    };
+    let (_, next) = identifier(s, table, here)?;
     expect(s, next, word::IN)
 }
 
@@ -662,26 +558,17 @@ fn if_else(s: &[u8], table: &mut [u64], at: Here, limits: Limits, start: usize) 
     let mut inner = limits;
     let mut begin = start;
     loop {
-        let r = cond(s, table, here, inner);
-        let Read::Done(body, next) = r else {
-            return r;
-        };
+        let (body, next) = cond(s, table, here, inner)?;
         if next.word() != word::ELSE {
             let r = finish(table, plain_row(kind::IF, begin, body.end, 2), next, since);
             return around(table, &starts, &sinces, &none, count, kind::IF, 3, r);
         }
-        let r = take(s, next);
-        let Read::Done(_, behind) = r else {
-            return r;
-        };
+        let (_, behind) = take(s, next)?;
         if behind.word() != word::IF {
             let r = elses(s, table, behind, inner, begin, since);
             return around(table, &starts, &sinces, &none, count, kind::IF, 3, r);
         }
-        let r = else_if(s, behind, inner);
-        let Read::Done(word, next) = r else {
-            return r;
-        };
+        let (word, next) = else_if(s, behind, inner)?;
         starts[count] = begin as u16;
         sinces[count] = since as u32;
         since = behind.rows;
@@ -698,10 +585,7 @@ fn cond(s: &[u8], table: &mut [u64], at: Here, limits: Limits) -> Read
     requires { Stands s.now at }
     ensures { (Tested s.now at table.old limits result table.new) × (Beyond s.now at result) }
 {
-    let r = expr(s, table, at, limits.headed(), false);
-    let Read::Done(_, next) = r else {
-        return r;
-    };
+    let (_, next) = expr(s, table, at, limits.headed(), false)?;
     block(s, table, next, limits)
 }
 
@@ -721,10 +605,7 @@ fn elses(
     if here.word() != word::CURLY_LEFT {
         return unusable(here);
     }
-    let r = block(s, table, here, limits);
-    let Read::Done(body, next) = r else {
-        return r;
-    };
+    let (body, next) = block(s, table, here, limits)?;
     finish(table, plain_row(kind::IF, start, body.end, 3), next, since)
 }
 
@@ -742,21 +623,15 @@ fn match_expr(s: &[u8], table: &mut [u64], at: Here, limits: Limits, start: usiz
     requires { (Stands s.now at) × (limits.signs ≡ 32) }
     ensures { Headed after_match s.now at table.old limits start result table.new }
 {
-    let r = expr(s, table, at, limits.headed(), false);
-    let Read::Done(_, next) = r else {
-        return r;
-    };
-    let r = open(s, next, word::CURLY_LEFT, limits);
-    let Read::Done(_, inside) = r else {
-        return r;
-    };
+    let (_, next) = expr(s, table, at, limits.headed(), false)?;
+    let (_, inside) = open(s, next, word::CURLY_LEFT, limits)?;
     let inner = limits.opened();
     let mut here = inside;
     let mut children: u64 = 1;
     while is_name(here.word()) {
-        let r = arm(s, table, here, inner);
+        let read = arm(s, table, here, inner)?;
         children += 1;
-        match r {
+        match read {
             Arm::Followed(next) => here = next,
             Arm::Last(next) => return braced(
                 s,
@@ -768,7 +643,6 @@ fn match_expr(s: &[u8], table: &mut [u64], at: Here, limits: Limits, start: usiz
                 0,
                 at.rows,
             ),
-            Arm::Refused(why) => return Read::Refused(why),
         }
     }
     braced(s, table, here, kind::MATCH, start, children, 0, at.rows)
@@ -776,26 +650,14 @@ fn match_expr(s: &[u8], table: &mut [u64], at: Here, limits: Limits, start: usiz
 
 // A pattern, perhaps a guard, `=>`, a body, and its comma.
 #[cycle(exprs)]
-fn arm(s: &[u8], table: &mut [u64], here: Here, limits: Limits) -> Arm
+fn arm(s: &[u8], table: &mut [u64], here: Here, limits: Limits) -> Result<Arm, Refusal>
     requires { (Stands s.now here) × (limits.signs ≡ 32) × T (one_of (word_of here) names) }
     ensures { OneArm (the s.now (counts limits) ARM here table.old) result table.new }
 {
-    let r = pattern(s, table, here, limits);
-    let Read::Done(matched, next) = r else {
-        return last_arm(r);
-    };
-    let r = guard(s, table, next, limits);
-    let Read::Done(test, next) = r else {
-        return last_arm(r);
-    };
-    let r = expect(s, next, word::FAT_ARROW);
-    let Read::Done(_, begin) = r else {
-        return last_arm(r);
-    };
-    let r = body(s, table, begin, limits.plain());
-    let Read::Done(body, next) = r else {
-        return last_arm(r);
-    };
+    let (matched, next) = pattern(s, table, here, limits)?;
+    let (test, next) = guard(s, table, next, limits)?;
+    let (_, begin) = expect(s, next, word::FAT_ARROW)?;
+    let (body, next) = body(s, table, begin, limits.plain())?;
     let row = valued_row(
         kind::ARM,
         matched.start,
@@ -803,10 +665,7 @@ fn arm(s: &[u8], table: &mut [u64], here: Here, limits: Limits) -> Arm
         test.children + 2,
         test.children,
     );
-    let r = finish(table, row, next, here.rows);
-    let Read::Done(_, next) = r else {
-        return last_arm(r);
-    };
+    let (_, next) = finish(table, row, next, here.rows)?;
     arm_comma(s, next, begin.word())
 }
 
@@ -826,20 +685,17 @@ fn body(s: &[u8], table: &mut [u64], here: Here, limits: Limits) -> Read
 }
 
 // The comma is optional behind a block; behind an expr no arm follows without it.
-fn arm_comma(s: &[u8], here: Here, begin: u64) -> Arm
+fn arm_comma(s: &[u8], here: Here, begin: u64) -> Result<Arm, Refusal>
     ensures { result ≡ arm_end s.now here begin }
 {
     if here.word() == word::COMMA {
-        let r = take(s, here);
-        let Read::Done(_, next) = r else {
-            return last_arm(r);
-        };
-        return Arm::Followed(next);
+        let (_, next) = take(s, here)?;
+        return Ok(Arm::Followed(next));
     }
     if begin == word::CURLY_LEFT {
-        return Arm::Followed(here);
+        return Ok(Arm::Followed(here));
     }
-    Arm::Last(here)
+    Ok(Arm::Last(here))
 }
 
 // Perhaps `if expr`: 1 child, or 0.
@@ -851,14 +707,8 @@ fn guard(s: &[u8], table: &mut [u64], here: Here, limits: Limits) -> Read
     if here.word() != word::IF {
         return part(0, here);
     }
-    let r = take(s, here);
-    let Read::Done(_, next) = r else {
-        return r;
-    };
-    let r = expr(s, table, next, limits.plain(), true);
-    let Read::Done(_, next) = r else {
-        return r;
-    };
+    let (_, next) = take(s, here)?;
+    let (_, next) = expr(s, table, next, limits.plain(), true)?;
     part(1, next)
 }
 
@@ -868,10 +718,7 @@ fn block(s: &[u8], table: &mut [u64], here: Here, limits: Limits) -> Read
     requires { Stands s.now here }
     ensures { Answers (the s.now (counts limits) BLOCK here table.old) 1 result table.new }
 {
-    let r = open(s, here, word::CURLY_LEFT, limits);
-    let Read::Done(opening, inside) = r else {
-        return r;
-    };
+    let (opening, inside) = open(s, here, word::CURLY_LEFT, limits)?;
     stmts(s, table, inside, limits.opened(), opening.start)
 }
 
@@ -885,9 +732,9 @@ fn stmts(s: &[u8], table: &mut [u64], at: Here, limits: Limits, start: usize) ->
     let mut children: u64 = 0;
     let mut last: u64 = 0;
     while can_begin_statement(here.word()) {
-        let r = stmt(s, table, here, limits);
+        let read = stmt(s, table, here, limits)?;
         children += 1;
-        match r {
+        match read {
             Stmt::Ended(next) => {
                 here = next;
                 last = 0;
@@ -906,7 +753,6 @@ fn stmts(s: &[u8], table: &mut [u64], at: Here, limits: Limits, start: usize) ->
                 1,
                 at.rows,
             ),
-            Stmt::Refused(why) => return Read::Refused(why),
         }
     }
     braced(s, table, here, kind::BLOCK, start, children, last, at.rows)
@@ -914,7 +760,7 @@ fn stmts(s: &[u8], table: &mut [u64], at: Here, limits: Limits, start: usize) ->
 
 // A statement and how it ended.
 #[cycle(exprs)]
-fn stmt(s: &[u8], table: &mut [u64], here: Here, limits: Limits) -> Stmt
+fn stmt(s: &[u8], table: &mut [u64], here: Here, limits: Limits) -> Result<Stmt, Refusal>
     requires { (Stands s.now here) × (limits.signs ≡ 32) }
     ensures { (Statement s.now here table.old limits result table.new) × (BeyondStatement s.now here result) }
 {
@@ -925,24 +771,18 @@ fn stmt(s: &[u8], table: &mut [u64], here: Here, limits: Limits) -> Stmt
         return ended(let_stmt(s, table, here, limits));
     }
     if is_four(here.word()) {
-        let r = four(s, table, here, limits);
-        let Read::Done(_, next) = r else {
-            return ended(r);
-        };
+        let (_, next) = four(s, table, here, limits)?;
         if next.word() != word::SEMI_COLON {
-            return Stmt::Four(next);
+            return Ok(Stmt::Four(next));
         }
         return ended(take(s, next));
     }
     if !can_begin_expr(here.word()) {
         return ended(unusable(here));
     }
-    let r = expr(s, table, here, limits, true);
-    let Read::Done(_, next) = r else {
-        return ended(r);
-    };
+    let (_, next) = expr(s, table, here, limits, true)?;
     if next.word() != word::SEMI_COLON {
-        return Stmt::Last(next);
+        return Ok(Stmt::Last(next));
     }
     ended(take(s, next))
 }
@@ -954,30 +794,12 @@ fn let_stmt(s: &[u8], table: &mut [u64], here: Here, limits: Limits) -> Read
     ensures { Answers (the s.now (counts limits) LET here table.old) 1 result table.new }
 {
     let after = limits.plain();
-    let r = take(s, here);
-    let Read::Done(word, next) = r else {
-        return r;
-    };
-    let r = identifier(s, table, next);
-    let Read::Done(_, next) = r else {
-        return r;
-    };
-    let r = typing(s, table, next, after, word::COLON);
-    let Read::Done(ty, next) = r else {
-        return r;
-    };
-    let r = expect(s, next, word::EQ);
-    let Read::Done(_, next) = r else {
-        return r;
-    };
-    let r = expr(s, table, next, after, true);
-    let Read::Done(_, next) = r else {
-        return r;
-    };
-    let r = expect(s, next, word::SEMI_COLON);
-    let Read::Done(ending, next) = r else {
-        return r;
-    };
+    let (word, next) = take(s, here)?;
+    let (_, next) = identifier(s, table, next)?;
+    let (ty, next) = typing(s, table, next, after, word::COLON)?;
+    let (_, next) = expect(s, next, word::EQ)?;
+    let (_, next) = expr(s, table, next, after, true)?;
+    let (ending, next) = expect(s, next, word::SEMI_COLON)?;
     let row = valued_row(
         kind::LET,
         word.start,
@@ -999,10 +821,7 @@ fn tree(s: &[u8], table: &mut [u64], tests: bool) -> Read
     let mut here = look(s, Cursor::new(), 0);
     let mut children: u64 = 0;
     while begins_declaration(here.word(), tests) {
-        let r = declaration(s, table, here, limits);
-        let Read::Done(_, next) = r else {
-            return r;
-        };
+        let (_, next) = declaration(s, table, here, limits)?;
         here = next;
         children += 1;
     }
@@ -1020,12 +839,9 @@ fn expression(s: &[u8], table: &mut [u64]) -> Read
         return refuse(refusal::TOO_LONG, MOST_BYTES, MOST_BYTES);
     }
     let first = look(s, Cursor::new(), 0);
-    let r = expr(s, table, first, Limits::all(), true);
-    let Read::Done(_, next) = r else {
-        return r;
-    };
+    let (found, next) = expr(s, table, first, Limits::all(), true)?;
     if next.word() != word::NONE {
         return unusable(next);
     }
-    r
+    Ok((found, next))
 }

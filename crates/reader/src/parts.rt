@@ -1,20 +1,19 @@
 // Parts of phrases, and the rows over them.
-ghost use Rattle.std.specs.Prelude.{◌≡◌, get_or};
+ghost use Rattle.std.specs.Prelude.{Ok, Err, ◌≡◌, get_or};
 ghost use Rattle.grammar.specs.Words.{close_brace};
-ghost use Rattle.parser.specs.declared.Read.TheVariants.{Done};
-ghost use Rattle.promises.specs.Firsts.{part_of, ended_by, last_arm};
+ghost use Rattle.promises.specs.Firsts.{part_of, ended_by};
 ghost use Rattle.parser.specs.Places.{end_of};
 ghost use Rattle.promises.specs.Promises.{Closed, over_read, over_table};
 
-use parser::{Arm, Here, Node, Read, Stmt, expect, finish};
+use parser::{Here, Node, Read, Stmt, expect, finish};
 use rows::{Row, kind};
-use tokens::word;
+use tokens::{Refusal, word};
 
 // A part of a phrase that a reader tells of by the rows it has, where the phrase goes on at `here`.
 pub fn part(children: u64, here: Here) -> Read
-    ensures { result ≡ Done (part_of children) here }
+    ensures { result ≡ Ok (part_of children, here) }
 {
-    Read::Done(
+    Ok((
         Node {
             kind: kind::NONE,
             start: 0,
@@ -22,27 +21,15 @@ pub fn part(children: u64, here: Here) -> Read
             children,
         },
         here,
-    )
+    ))
 }
 
 // A statement behind its `;`.
-pub fn ended(r: Read) -> Stmt
+pub fn ended(r: Read) -> Result<Stmt, Refusal>
     ensures { result ≡ ended_by r }
 {
-    match r {
-        Read::Done(_, next) => Stmt::Ended(next),
-        Read::Refused(why) => Stmt::Refused(why),
-    }
-}
-
-// An arm that none may follow.
-pub fn last_arm(r: Read) -> Arm
-    ensures { result ≡ last_arm r }
-{
-    match r {
-        Read::Done(_, next) => Arm::Last(next),
-        Read::Refused(why) => Arm::Refused(why),
-    }
+    let (_, next) = r?;
+    Ok(Stmt::Ended(next))
 }
 
 // A row whose value tells of a part.
@@ -86,10 +73,7 @@ pub fn braced(
 ) -> Read
     ensures { Closed s.now here table.old close_brace (record { kind = kind; start = start; end = end_of here; children = children; value = value; detail = 0 }) since result table.new }
 {
-    let r = expect(s, here, word::CURLY_RIGHT);
-    let Read::Done(brace, next) = r else {
-        return r;
-    };
+    let (brace, next) = expect(s, here, word::CURLY_RIGHT)?;
     finish(
         table,
         valued_row(kind, start, brace.end, children, value),
@@ -99,22 +83,23 @@ pub fn braced(
 }
 
 // What a list holds at an index, or 0.
+// kept: three functions for three widths, since a u32 is no usize by `From`.
 fn place_in(list: &[u16], i: usize) -> usize
     ensures { result ≡ get_or list.now i 0 }
 {
-    if i < list.len() { list[i] as usize } else { 0 }
+    list.get(i).copied().unwrap_or(0) as usize
 }
 
 fn rows_in(list: &[u32], i: usize) -> usize
     ensures { result ≡ get_or list.now i 0 }
 {
-    if i < list.len() { list[i] as usize } else { 0 }
+    list.get(i).copied().unwrap_or(0) as usize
 }
 
 fn detail_in(list: &[u8], i: usize) -> u64
     ensures { result ≡ get_or list.now i 0 }
 {
-    if i < list.len() { list[i] as u64 } else { 0 }
+    list.get(i).copied().unwrap_or(0) as u64
 }
 
 // The rows of so many phrases that each end with the next, over what the innermost holds.
@@ -130,14 +115,8 @@ pub fn around(
 ) -> Read
     ensures { (result ≡ over_read starts.now details.now kind children count inner) × (table.new ≡ over_table starts.now sinces.now details.now kind children count inner table.old) }
 {
-    let Read::Done(first, next) = inner else {
-        return inner;
-    };
-    let mut found = first;
-    let mut here = next;
-    let mut n = count;
-    while 0 < n {
-        n -= 1;
+    let (mut found, mut here) = inner?;
+    for n in (0..count).rev() {
         let row = detail_row(
             kind,
             place_in(starts, n),
@@ -145,12 +124,9 @@ pub fn around(
             children,
             detail_in(details, n),
         );
-        let r = finish(table, row, here, rows_in(sinces, n));
-        let Read::Done(over, next) = r else {
-            return r;
-        };
+        let (over, next) = finish(table, row, here, rows_in(sinces, n))?;
         found = over;
         here = next;
     }
-    Read::Done(found, here)
+    Ok((found, here))
 }

@@ -2,18 +2,18 @@
 use mathlib.Core.Path.{◌≡◌, refl, sym, ap, ◌∙◌, subst}
 use mathlib.Core.Logic.{◌⊎◌, inl, inr}
 use Prim.Native.Nat.{ℕ, zero, suc, ◌+◌, ◌-◌, ◌*◌, ◌/◌, ◌%◌, ◌^◌, ◌≤◌, ◌<◌}
-use native.Mathlib.Nat.{mod-add-div, add-mul, mul-add, mul_assoc, mul_comm, mul_right_comm, mul-sub, add-mul-mod_self_left, mod-eq_of_lt, mod-eq-sub-mod, mod-lt, mod-le, mul-pos, mul-one, mul-le-mul_right, mul-lt-mul_of_pos_right, le_of_mul-le-mul_right, lt_of_mul-lt-mul_right, lt_of_lt_of_le, lt_of_le_of_lt, le_of_lt, lt_irrefl, le_of_eq, le_trans, mul-div_cancel, not-le_of_lt, zero-mul, zero-lt-suc, one-mul}
+use native.Mathlib.Nat.{mod-add-div, add-mul, mul-add, mul_assoc, mul_comm, mul_right_comm, mul-sub, add-mul-mod_self_left, mod-eq_of_lt, mod-eq-sub-mod, mod-lt, mod-le, mul-pos, mul-one, mul-le-mul_right, mul-lt-mul_of_pos_right, le_of_mul-le-mul_right, lt_of_mul-lt-mul_right, lt_of_le_of_lt, le_of_lt, lt_irrefl, le_of_eq, le_trans, mul-div_cancel, not-le_of_lt, zero-mul, zero-lt-suc, one-mul}
 use native.Mathlib.Omega.{arith}
-use mathlib.Core.Bool.{Bool, true, false, not, ◌&&◌, cond, true≢false}
+use mathlib.Core.Bool.{Bool, true, false, not, ◌&&◌, true≢false}
 use lib.IntN.{ℤ, pos, negsuc}
 use lib.Dec.{T, leb, ltb, eqb, ltb→lt, lt→ltb, leb→le, nleb→lt, nltb→le, eqb→eq}
 use lib.Pow.{pow-add, pow_pos, pow-lt}
-use lib.Ieee.{Float, nan, inf, fin, Format, binary64, prec, emax, low, up, down, round, sum, add, sub, neg, rem, lt, le, fits, of_bits}
+use lib.Ieee.{Float, nan, inf, fin, Format, binary64, prec, emax, low, up, down, round, sum, add, sub, neg, rem, lt, fits, of_bits}
 use lib.Ieee.Fits.{up_pos, down_pos, and_l, and_r}
 use lib.Ieee.Bits.{cond_no}
 use lib.Ieee.Exact.{HasValue, round_exact}
 use lib.Ieee.Scale.{round_same}
-use lib.Ieee.Positive.{num, den, den_pos, first_pos}
+use lib.Ieee.Positive.{num, den, first_pos}
 use Rattle.std.proofs.Common.{zero-le}
 use Rattle.remainders.specs.Amounts.{amount, divisor}
 

@@ -1,5 +1,5 @@
 -- A float that is finite and has no minus, and one that is finite and above zero.
-use Rattle.std.specs.Prelude.{Bool, true, false, not, cond, ℕ, Float, ltb}
+use Rattle.std.specs.Prelude.{Bool, false, not, cond, Float, ltb}
 use Rattle.std.specs.Float.Ieee.{nan, inf, fin}
 
 abbrev pub amount : Float → Bool

@@ -1,4 +1,5 @@
 -- Rules 1 and 2: an address that ends inside the copy is one in the copy too, and where s has none the copy has none.
+use Rattle.std.specs.Prelude.{Some, None}
 use mathlib.Core.Path.{◌≡◌, refl, sym, ap, ◌∙◌, subst}
 use mathlib.Core.List.{List}
 use mathlib.Core.Bool.{Bool, true, false, ◌&&◌, true≢false, cond}
@@ -11,8 +12,8 @@ use Rattle.chars.specs.declared.Class.TheVariants.{Digit, HexDigit, HexColon}
 use Rattle.chars.specs.Chars.{byte_at, is_class, is_digit, is_hex_digit}
 use Rattle.chars.specs.Runs.{past_run, behind_last}
 use Rattle.chars.proofs.Runs.{outside, past_ge, past_gt, past_stops, last_le}
-use Rattle.tokens.specs.declared.Fit.{Fit}
-use Rattle.tokens.specs.declared.Fit.TheVariants.{To, No}
+use Rattle.tokens.proofs.Results.{fit_end, fit_word}
+use Rattle.tokens.specs.Results.{Fit}
 use Rattle.tokens.specs.Rules.{or_to, colons_at, fraction_at, dotted_at, three_at, decimal_group, ipv6_at, period_at, ipv4_at}
 use Rattle.answers.proofs.Ahead.{left_true, right_true}
 use Rattle.respell.specs.Copies.{Copied, is_stop}
@@ -38,7 +39,7 @@ module _ {s t : List ℕ} {lo q q' : ℕ} (copy : Copied s t lo q q') (stop : is
   abbrev hexes : List ℕ → ℕ → ℕ
   hexes l i = past_run (is_class HexDigit) l i
 
-  colons_hit : (i i' e e' : ℕ) {w : ℕ} → lo ≤ i → i + q' ≡ i' + q → colons_at s i ≡ To e w → e ≤ q → e + q' ≡ e' + q → colons_at t i' ≡ To e' 1
+  colons_hit : (i i' e e' : ℕ) {w : ℕ} → lo ≤ i → i + q' ≡ i' + q → colons_at s i ≡ Some (e, w) → e ≤ q → e + q' ≡ e' + q → colons_at t i' ≡ Some (e', 1)
   unfolding colons_at
   colons_hit i i' e e' l at z h ends =
       let a : ℕ = hexes s i in
@@ -59,7 +60,7 @@ module _ {s t : List ℕ} {lo q q' : ℕ} (copy : Copied s t lo q q') (stop : is
       (both (eqb (byte_at t a') 58) (eqb (byte_at t b') 58) (test_to copy (is 58) a a' (omega arith) (omega arith) (omega arith) x) (test_to copy (is 58) b b' (omega arith) (omega arith) (omega arith) y))
       (omega arith)
 
-  colons_miss : (i i' : ℕ) → lo ≤ i → i ≤ q → i + q' ≡ i' + q → colons_at s i ≡ No → colons_at t i' ≡ No
+  colons_miss : (i i' : ℕ) → lo ≤ i → i ≤ q → i + q' ≡ i' + q → colons_at s i ≡ None → colons_at t i' ≡ None
   unfolding colons_at
   colons_miss i i' l h at z = no_fit (eqb (byte_at t a') 58 && eqb (byte_at t b') 58) (past_run (is_class HexColon) t (b' + 1)) 1 (not_so _ found)
     where
@@ -110,7 +111,7 @@ module _ {s t : List ℕ} {lo q q' : ℕ} (copy : Copied s t lo q q') (stop : is
   unfolding fraction_at
   fraction_long l i e = past_gt (is_class Digit) (outside Digit) l (i + 1) (digit_class (byte_at l (i + 1)) (right_true (eqb (byte_at l i) 46) (is_digit (byte_at l (i + 1))) e))
 
-  dotted_hit : (i i' e e' : ℕ) {w : ℕ} → lo ≤ i → i + q' ≡ i' + q → dotted_at s i ≡ To e w → e ≤ q → e + q' ≡ e' + q → dotted_at t i' ≡ To e' 1
+  dotted_hit : (i i' e e' : ℕ) {w : ℕ} → lo ≤ i → i + q' ≡ i' + q → dotted_at s i ≡ Some (e, w) → e ≤ q → e + q' ≡ e' + q → dotted_at t i' ≡ Some (e', 1)
   unfolding dotted_at
   dotted_hit i i' e e' l at z h ends =
       let f = fit_ends (fraction_at s i) (past_run (is_class Digit) s (i + 1)) 1 z in
@@ -119,7 +120,7 @@ module _ {s t : List ℕ} {lo q q' : ℕ} (copy : Copied s t lo q q') (stop : is
       let r = run_to copy Digit (digit_off (byte_at t q') stop) (i + 1) (i' + 1) (omega arith) (omega arith) (omega arith) in
       fit (fraction_at t i') (past_run (is_class Digit) t (i' + 1)) e' 1 (fraction_to i i' l at (omega arith) f.0) (omega arith)
 
-  dotted_back : (i i' e' : ℕ) {w : ℕ} → lo ≤ i → i ≤ q → i + q' ≡ i' + q → dotted_at t i' ≡ To e' w → (e : ℕ) × (dotted_at s i ≡ To e 1) × (e' ≤ q') × (e' < q' → (e + q' ≡ e' + q) × (lo ≤ e))
+  dotted_back : (i i' e' : ℕ) {w : ℕ} → lo ≤ i → i ≤ q → i + q' ≡ i' + q → dotted_at t i' ≡ Some (e', w) → (e : ℕ) × (dotted_at s i ≡ Some (e, 1)) × (e' ≤ q') × (e' < q' → (e + q' ≡ e' + q) × (lo ≤ e))
   unfolding dotted_at
   dotted_back i i' e' l h at z =
       let f = fit_ends (fraction_at t i') (past_run (is_class Digit) t (i' + 1)) 1 z in
@@ -134,11 +135,11 @@ module _ {s t : List ℕ} {lo q q' : ℕ} (copy : Copied s t lo q q') (stop : is
         λ k. let r = run_back copy Digit (digit_off (byte_at t q') stop) (i + 1) (i' + 1) (omega arith) (omega arith) (omega arith) in (omega arith, omega arith),
       )
 
-  dotted_long : (i e : ℕ) {w : ℕ} → dotted_at s i ≡ To e w → i < e
+  dotted_long : (i e : ℕ) {w : ℕ} → dotted_at s i ≡ Some (e, w) → i < e
   unfolding dotted_at
   dotted_long i e z = let f = fit_ends (fraction_at s i) (past_run (is_class Digit) s (i + 1)) 1 z in let fe = f.1 in let g = fraction_long s i f.0 in omega arith
 
-  three_hit : (i i' e e' : ℕ) {w : ℕ} → lo ≤ i → i + q' ≡ i' + q → three_at s i ≡ To e w → e ≤ q → e + q' ≡ e' + q → three_at t i' ≡ To e' 1
+  three_hit : (i i' e e' : ℕ) {w : ℕ} → lo ≤ i → i + q' ≡ i' + q → three_at s i ≡ Some (e, w) → e ≤ q → e + q' ≡ e' + q → three_at t i' ≡ Some (e', 1)
   unfolding three_at
   three_hit i i' e e' l at z h ends =
       let a = then_ends (dotted_at s i) _ z in
@@ -155,17 +156,17 @@ module _ {s t : List ℕ} {lo q q' : ℕ} (copy : Copied s t lo q q') (stop : is
       (dotted_hit i₂ j₂ e e' (omega arith) (omega arith) b.3 h ends))
 
   -- nothing dotted begins at the stop
-  no_dotted : (j e : ℕ) {w : ℕ} → dotted_at t j ≡ To e w → j ≤ q' → j < q'
+  no_dotted : (j e : ℕ) {w : ℕ} → dotted_at t j ≡ Some (e, w) → j ≤ q' → j < q'
   unfolding dotted_at fraction_at
   no_dotted j e z h =
       let f = fit_ends (eqb (byte_at t j) 46 && is_digit (byte_at t (j + 1))) (past_run (is_class Digit) t (j + 1)) 1 z in
       short_of_stop copy (is 46) (is_dot (byte_at t q') stop) j h (left_true (eqb (byte_at t j) 46) (is_digit (byte_at t (j + 1))) f.0)
 
-  three_goes : (i a b c : ℕ) → dotted_at s i ≡ To a 1 → dotted_at s a ≡ To b 1 → dotted_at s b ≡ To c 1 → three_at s i ≡ No → ⊥
+  three_goes : (i a b c : ℕ) → dotted_at s i ≡ Some (a, 1) → dotted_at s a ≡ Some (b, 1) → dotted_at s b ≡ Some (c, 1) → three_at s i ≡ None → ⊥
   unfolding three_at
   three_goes i a b c x y z h = never_both (three_at s i) h (then_goes (dotted_at s i) _ x (then_goes (dotted_at s a) _ y z))
 
-  three_miss : (i i' : ℕ) → lo ≤ i → i ≤ q → i + q' ≡ i' + q → three_at s i ≡ No → three_at t i' ≡ No
+  three_miss : (i i' : ℕ) → lo ≤ i → i ≤ q → i + q' ≡ i' + q → three_at s i ≡ None → three_at t i' ≡ None
   unfolding three_at
   three_miss i i' l h at z = none_fits _ (λ e w x.
       let a = then_ends (dotted_at t i') _ x in
@@ -220,7 +221,7 @@ module _ {s t : List ℕ} {lo q q' : ℕ} (copy : Copied s t lo q q') (stop : is
     pub stands : eqb (byte_at s colon) 58 ≡ true
     pub ends : is_class Digit (byte_at s c) ≡ false
 
-  colons_have : (i c : ℕ) {w : ℕ} → colons_at s i ≡ To c w → Colons i c
+  colons_have : (i c : ℕ) {w : ℕ} → colons_at s i ≡ Some (c, w) → Colons i c
   unfolding colons_at
   colons_have i c z =
       let a : ℕ = hexes s i in
@@ -270,43 +271,43 @@ module _ {s t : List ℕ} {lo q q' : ℕ} (copy : Copied s t lo q q') (stop : is
       ap (λ (b : Bool). b && eqb (past_run (is_class Digit) t g') c') (ltb_moved g c g' c' (omega arith) e)
       ∙ ap (λ (b : Bool). ltb g c && b) (eqb_moved (past_run (is_class Digit) s g) c (past_run (is_class Digit) t g') c' (omega arith) e)
 
-  or_to_lem : (f : Fit) (c : ℕ) → (e : ℕ) × (or_to f c ≡ To e 1)
+  or_to_lem : (f : Fit) (c : ℕ) → (e : ℕ) × (or_to f c ≡ Some (e, 1))
   unfolding or_to
-  or_to_lem (To e w) c = (e, refl)
-  or_to_lem No c = (c, refl)
+  or_to_lem (Some (e, w)) c = (e, refl)
+  or_to_lem None c = (c, refl)
 
-  pub ipv6_miss : (i i' : ℕ) → lo ≤ i → i ≤ q → i + q' ≡ i' + q → ipv6_at s i ≡ No → ipv6_at t i' ≡ No
+  pub ipv6_miss : (i i' : ℕ) → lo ≤ i → i ≤ q → i + q' ≡ i' + q → ipv6_at s i ≡ None → ipv6_at t i' ≡ None
   unfolding ipv6_at
   ipv6_miss i i' l h at z = then_none (colons_at t i') _ (colons_miss i i' l h at (by (colons_at s i) refl))
     where
-      by : (f : Fit) → colons_at s i ≡ f → colons_at s i ≡ No
-      by (To e w) x = absurd (let o = or_to_lem (cond (decimal_group s e) (three_at s e) No) e in never_both _ z (then_goes (colons_at s i) _ x o.1))
-      by No x = x
+      by : (f : Fit) → colons_at s i ≡ f → colons_at s i ≡ None
+      by (Some (e, w)) x = absurd (let o = or_to_lem (cond (decimal_group s e) (three_at s e) None) e in never_both _ z (then_goes (colons_at s i) _ x o.1))
+      by None x = x
 
   -- the dotted ending, or none
-  ending_hit : (c c' e e' : ℕ) {w : ℕ} → lo ≤ c → c + q' ≡ c' + q → (b b' : Bool) → b' ≡ b → (f : Fit) → three_at s c ≡ f → or_to (cond b f No) c ≡ To e w → e ≤ q → e + q' ≡ e' + q → or_to (cond b' (three_at t c') No) c' ≡ To e' w
+  ending_hit : (c c' e e' : ℕ) {w : ℕ} → lo ≤ c → c + q' ≡ c' + q → (b b' : Bool) → b' ≡ b → (f : Fit) → three_at s c ≡ f → or_to (cond b f None) c ≡ Some (e, w) → e ≤ q → e + q' ≡ e' + q → or_to (cond b' (three_at t c') None) c' ≡ Some (e', w)
   unfolding or_to
-  ending_hit c c' e e' l at true b' d (To x v) y z h k =
-      let u : x ≡ e = cc in
+  ending_hit c c' e e' l at true b' d (Some (x, v)) y z h k =
+      let u : x ≡ e = ap fit_end z in
       let r = three_hit c c' x e' l at y (omega arith) (omega arith) in
-      rw (d, r) (ap (λ (n : ℕ). To e' n) (cc))
-  ending_hit c c' e e' l at true b' d No y z h k =
-      let u : c ≡ e = cc in
+      rw (d, r) (ap (λ (n : ℕ). Some (e', n)) (ap fit_word z))
+  ending_hit c c' e e' l at true b' d None y z h k =
+      let u : c ≡ e = ap fit_end z in
       let r = three_miss c c' l (omega arith) at y in
       let n : c' ≡ e' = omega arith in
-      rw (d, r, n) (ap (λ (m : ℕ). To e' m) (cc))
+      rw (d, r, n) (ap (λ (m : ℕ). Some (e', m)) (ap fit_word z))
   ending_hit c c' e e' l at false b' d f y z h k =
-      let u : c ≡ e = cc in
+      let u : c ≡ e = ap fit_end z in
       let n : c' ≡ e' = omega arith in
-      rw (d, n) (ap (λ (m : ℕ). To e' m) (cc))
+      rw (d, n) (ap (λ (m : ℕ). Some (e', m)) (ap fit_word z))
 
-  ending_le : (c e : ℕ) {w : ℕ} (b : Bool) (f : Fit) → ((x v : ℕ) → f ≡ To x v → c ≤ x) → or_to (cond b f No) c ≡ To e w → c ≤ e
+  ending_le : (c e : ℕ) {w : ℕ} (b : Bool) (f : Fit) → ((x v : ℕ) → f ≡ Some (x, v) → c ≤ x) → or_to (cond b f None) c ≡ Some (e, w) → c ≤ e
   unfolding or_to
-  ending_le c e true (To x v) g z = let u : x ≡ e = cc in let k = g x v refl in omega arith
-  ending_le c e true No g z = let u : c ≡ e = cc in omega arith
-  ending_le c e false f g z = let u : c ≡ e = cc in omega arith
+  ending_le c e true (Some (x, v)) g z = let u : x ≡ e = ap fit_end z in let k = g x v refl in omega arith
+  ending_le c e true None g z = let u : c ≡ e = ap fit_end z in omega arith
+  ending_le c e false f g z = let u : c ≡ e = ap fit_end z in omega arith
 
-  three_long : (c e : ℕ) {w : ℕ} → three_at s c ≡ To e w → c ≤ e
+  three_long : (c e : ℕ) {w : ℕ} → three_at s c ≡ Some (e, w) → c ≤ e
   unfolding three_at
   three_long c e z =
       let a = then_ends (dotted_at s c) _ z in
@@ -316,13 +317,13 @@ module _ {s t : List ℕ} {lo q q' : ℕ} (copy : Copied s t lo q q') (stop : is
       let u = dotted_long b.0 e b.3 in
       omega arith
 
-  pub ipv6_hit : (i i' e e' : ℕ) {w : ℕ} → lo ≤ i → i + q' ≡ i' + q → ipv6_at s i ≡ To e w → e ≤ q → e + q' ≡ e' + q → ipv6_at t i' ≡ To e' w
+  pub ipv6_hit : (i i' e e' : ℕ) {w : ℕ} → lo ≤ i → i + q' ≡ i' + q → ipv6_at s i ≡ Some (e, w) → e ≤ q → e + q' ≡ e' + q → ipv6_at t i' ≡ Some (e', w)
   unfolding ipv6_at
   ipv6_hit i i' e e' {w} l at z h k =
       let a = then_ends (colons_at s i) _ z in
       by a.0 a.2 a.3
     where
-      by : (c : ℕ) {v : ℕ} → colons_at s i ≡ To c v → or_to (cond (decimal_group s c) (three_at s c) No) c ≡ To e w → ipv6_at t i' ≡ To e' w
+      by : (c : ℕ) {v : ℕ} → colons_at s i ≡ Some (c, v) → or_to (cond (decimal_group s c) (three_at s c) None) c ≡ Some (e, w) → ipv6_at t i' ≡ Some (e', w)
       by c x y =
           let have = colons_have i c x in
           let from = have.from in
@@ -333,7 +334,7 @@ module _ {s t : List ℕ} {lo q q' : ℕ} (copy : Copied s t lo q q') (stop : is
           (ending_hit c c' e e' (omega arith) (omega arith) (decimal_group s c) (decimal_group t c') (group_to i i' c c' l at have (omega arith) (omega arith)) (three_at s c) refl y h k)
 
   -- 2. digits and a period
-  period_hit : (i i' e e' : ℕ) {w : ℕ} → lo ≤ i → i + q' ≡ i' + q → period_at s i ≡ To e w → e ≤ q → e + q' ≡ e' + q → period_at t i' ≡ To e' 2
+  period_hit : (i i' e e' : ℕ) {w : ℕ} → lo ≤ i → i + q' ≡ i' + q → period_at s i ≡ Some (e, w) → e ≤ q → e + q' ≡ e' + q → period_at t i' ≡ Some (e', 2)
   unfolding period_at
   period_hit i i' e e' l at z h ends =
       let a : ℕ = past_run (is_class Digit) s i in
@@ -348,7 +349,7 @@ module _ {s t : List ℕ} {lo q q' : ℕ} (copy : Copied s t lo q q') (stop : is
       (test_to copy (is 46) a a' (omega arith) (omega arith) (omega arith) (right_true (is_digit (byte_at s i)) (eqb (byte_at s a) 46) f.0)))
       (omega arith)
 
-  period_long : (i e : ℕ) {w : ℕ} → period_at s i ≡ To e w → i < e
+  period_long : (i e : ℕ) {w : ℕ} → period_at s i ≡ Some (e, w) → i < e
   unfolding period_at
   period_long i e z =
       let a : ℕ = past_run (is_class Digit) s i in
@@ -356,7 +357,7 @@ module _ {s t : List ℕ} {lo q q' : ℕ} (copy : Copied s t lo q q') (stop : is
       let ga = past_ge (is_class Digit) s i in
       omega arith
 
-  period_back : (i i' e' : ℕ) {w : ℕ} → lo ≤ i → i ≤ q → i + q' ≡ i' + q → period_at t i' ≡ To e' w → (e : ℕ) × (period_at s i ≡ To e 2) × (e + q' ≡ e' + q) × (lo ≤ e) × (e ≤ q)
+  period_back : (i i' e' : ℕ) {w : ℕ} → lo ≤ i → i ≤ q → i + q' ≡ i' + q → period_at t i' ≡ Some (e', w) → (e : ℕ) × (period_at s i ≡ Some (e, 2)) × (e + q' ≡ e' + q) × (lo ≤ e) × (e ≤ q)
   unfolding period_at
   period_back i i' e' l h at z =
       let a : ℕ = past_run (is_class Digit) s i in
@@ -378,7 +379,7 @@ module _ {s t : List ℕ} {lo q q' : ℕ} (copy : Copied s t lo q q') (stop : is
         omega arith,
       )
 
-  pub ipv4_hit : (i i' e e' : ℕ) {w : ℕ} → lo ≤ i → i + q' ≡ i' + q → ipv4_at s i ≡ To e w → e ≤ q → e + q' ≡ e' + q → ipv4_at t i' ≡ To e' w
+  pub ipv4_hit : (i i' e e' : ℕ) {w : ℕ} → lo ≤ i → i + q' ≡ i' + q → ipv4_at s i ≡ Some (e, w) → e ≤ q → e + q' ≡ e' + q → ipv4_at t i' ≡ Some (e', w)
   unfolding ipv4_at
   ipv4_hit i i' e e' {w} l at z h ends =
       let a = then_ends (period_at s i) _ z in
@@ -386,29 +387,29 @@ module _ {s t : List ℕ} {lo q q' : ℕ} (copy : Copied s t lo q q') (stop : is
       let c = then_ends (period_at s b.0) _ b.3 in
       by a.0 b.0 c.0 a.2 b.2 c.2 c.3
     where
-      by : (i₁ i₂ i₃ : ℕ) {u v x : ℕ} → period_at s i ≡ To i₁ u → period_at s i₁ ≡ To i₂ v → period_at s i₂ ≡ To i₃ x → To (past_run (is_class Digit) s i₃) 2 ≡ To e w → ipv4_at t i' ≡ To e' w
+      by : (i₁ i₂ i₃ : ℕ) {u v x : ℕ} → period_at s i ≡ Some (i₁, u) → period_at s i₁ ≡ Some (i₂, v) → period_at s i₂ ≡ Some (i₃, x) → ◌≡◌ {A = Fit} (Some (past_run (is_class Digit) s i₃, 2)) (Some (e, w)) → ipv4_at t i' ≡ Some (e', w)
       by i₁ i₂ i₃ a b c y =
           let ga = period_long i i₁ a in
           let gb = period_long i₁ i₂ b in
           let gc = period_long i₂ i₃ c in
           let gd = past_ge (is_class Digit) s i₃ in
-          let ye : past_run (is_class Digit) s i₃ ≡ e = cc in
-          let yw : 2 ≡ w = cc in
+          let ye : past_run (is_class Digit) s i₃ ≡ e = ap fit_end y in
+          let yw : 2 ≡ w = ap fit_word y in
           let j₁ : ℕ = i' + (i₁ - i) in
           let j₂ : ℕ = i' + (i₂ - i) in
           let j₃ : ℕ = i' + (i₃ - i) in
           let r = run_to copy Digit (digit_off (byte_at t q') stop) i₃ j₃ (omega arith) (omega arith) (omega arith) in
           let re : past_run (is_class Digit) t j₃ ≡ e' = omega arith in
-          then_goes (period_at t i') _ {a = j₁} {x = To e' w} (period_hit i i' i₁ j₁ l at a (omega arith) (omega arith))
-          (then_goes (period_at t j₁) _ {a = j₂} {x = To e' w} (period_hit i₁ j₁ i₂ j₂ (omega arith) (omega arith) b (omega arith) (omega arith))
-          (then_goes (period_at t j₂) _ {a = j₃} {x = To e' w} (period_hit i₂ j₂ i₃ j₃ (omega arith) (omega arith) c (omega arith) (omega arith))
-          (ap (λ (n : ℕ). To n 2) re ∙ ap (To e') yw)))
+          then_goes (period_at t i') _ {a = j₁} {x = Some (e', w)} (period_hit i i' i₁ j₁ l at a (omega arith) (omega arith))
+          (then_goes (period_at t j₁) _ {a = j₂} {x = Some (e', w)} (period_hit i₁ j₁ i₂ j₂ (omega arith) (omega arith) b (omega arith) (omega arith))
+          (then_goes (period_at t j₂) _ {a = j₃} {x = Some (e', w)} (period_hit i₂ j₂ i₃ j₃ (omega arith) (omega arith) c (omega arith) (omega arith))
+          (ap (λ (n : ℕ). Some (n, 2)) re ∙ ap (λ (z : ℕ). Some (e', z)) yw)))
 
-  ipv4_goes : (i a b c : ℕ) → period_at s i ≡ To a 2 → period_at s a ≡ To b 2 → period_at s b ≡ To c 2 → ipv4_at s i ≡ No → ⊥
+  ipv4_goes : (i a b c : ℕ) → period_at s i ≡ Some (a, 2) → period_at s a ≡ Some (b, 2) → period_at s b ≡ Some (c, 2) → ipv4_at s i ≡ None → ⊥
   unfolding ipv4_at
   ipv4_goes i a b c x y z h = never_both (ipv4_at s i) h (then_goes (period_at s i) _ x (then_goes (period_at s a) _ y (then_goes (period_at s b) _ z refl)))
 
-  pub ipv4_miss : (i i' : ℕ) → lo ≤ i → i ≤ q → i + q' ≡ i' + q → ipv4_at s i ≡ No → ipv4_at t i' ≡ No
+  pub ipv4_miss : (i i' : ℕ) → lo ≤ i → i ≤ q → i + q' ≡ i' + q → ipv4_at s i ≡ None → ipv4_at t i' ≡ None
   unfolding ipv4_at
   ipv4_miss i i' l h at z = none_fits _ (λ e w x.
       let a = then_ends (period_at t i') _ x in

@@ -1,4 +1,5 @@
 -- What the grammar sees at a place of the copy: the token that it sees at that place of s, with its bytes moved.
+use Rattle.std.specs.Prelude.{Some, None, Ok, Err}
 use mathlib.Core.Path.{◌≡◌, refl, sym, ap, ◌∙◌, subst}
 use mathlib.Core.List.{List}
 use mathlib.Core.Bool.{Bool, true, false, not, ◌||◌, cond}
@@ -9,14 +10,12 @@ use lib.Seq.{slice}
 use lib.Dec.{T, eqb, ltb}
 use borrow.Author.Tests.{lt-ltb, ne_eqb, eqb-true}
 use Rattle.chars.specs.Chars.{byte_at, is_blank}
-use Rattle.values.specs.declared.Literal.{Literal}
+use Rattle.values.specs.Results.{Worth}
 use Rattle.values.specs.Literals.{literal_of}
-use Rattle.tokens.specs.declared.Fit.{Fit}
-use Rattle.tokens.specs.declared.Fit.TheVariants.{To, No}
+use Rattle.tokens.specs.Results.{Fit}
 use Rattle.tokens.specs.declared.Cursor.{Cursor}
 use Rattle.tokens.specs.declared.Refusal.{Refusal}
-use Rattle.tokens.specs.declared.Step.{Step}
-use Rattle.tokens.specs.declared.Step.TheVariants.{Taken, Refused}
+use Rattle.tokens.specs.Results.{Step}
 use Rattle.tokens.specs.Words.{code_of}
 use Rattle.tokens.specs.Blanks.{skip_all}
 use Rattle.tokens.specs.Rules.{pair_at, ipv6_at, ipv4_at, two_at, one_at, as_at, hex_at, number_at, quote_at, name_at, taken, refused, or_else, token_at}
@@ -34,14 +33,14 @@ use Rattle.respell.proofs.Skips.{skip_ge, skip_again, skip_blank, skip_copied}
 
 -- a token begins where the rules look for it, and so does `f"`
 abbrev Starts : ℕ → Step → Type 0
-Starts i (Taken w a n) = a ≡ i
-Starts i (Refused r) = r.number ≡ 5 → (r.start ≡ i) × (r.end ≡ i + 2)
+Starts i (Ok (w, a, n)) = a ≡ i
+Starts i (Err r) = r.number ≡ 5 → (r.start ≡ i) × (r.end ≡ i + 2)
 
 module _ (i : ℕ) where
   or_starts : (f : Fit) (d : Step) → Starts i d → Starts i (or_else i f d)
   unfolding or_else taken
-  or_starts (To e w) d k = refl
-  or_starts No d k = k
+  or_starts (Some (e, w)) d k = refl
+  or_starts None d k = k
 
   cond_starts : (b : Bool) (d : Step) → Starts i d → Starts i (cond b (refused 5 i (i + 2)) d)
   unfolding refused
@@ -86,39 +85,39 @@ module _ {s t : List ℕ} {lo q q' : ℕ} (copy : Copied s t lo q q') (stop : is
       (subst (λ (d : Step). Said t q q' d (token_at t (skip_all t i'))) (sym (step_inside s i (omega arith)))
       (token_said copy stop closes (skip_all s i) (skip_all t i') (omega arith) h (omega arith)))
 
-  pub step_copied : {w a : ℕ} {n : Cursor} → step_at s i ≡ Taken w a n → n.at ≤ q → (a' e' : ℕ) → a + q' ≡ a' + q → n.at + q' ≡ e' + q → Room t w e' → step_at t i' ≡ taken a' e' w
+  pub step_copied : {w a : ℕ} {n : Cursor} → step_at s i ≡ Ok (w, a, n) → n.at ≤ q → (a' e' : ℕ) → a + q' ≡ a' + q → n.at + q' ≡ e' + q → Room t w e' → step_at t i' ≡ taken a' e' w
   step_copied z h a' e' x y room =
       let o = subst (Starts (skip_all s i)) z (step_starts s i) in
       let g = (taken_good s i z).1 in
       subst (λ (d : Step). Said t q q' d (step_at t i')) z (step_moved (omega arith)) h a' e' x y room
 
-  pub quote_copied : {r : Refusal} → step_at s i ≡ Refused r → r.number ≡ 5 → r.end ≤ q → (a' e' : ℕ) → r.start + q' ≡ a' + q → r.end + q' ≡ e' + q → step_at t i' ≡ refused 5 a' e'
+  pub quote_copied : {r : Refusal} → step_at s i ≡ Err r → r.number ≡ 5 → r.end ≤ q → (a' e' : ℕ) → r.start + q' ≡ a' + q → r.end + q' ≡ e' + q → step_at t i' ≡ refused 5 a' e'
   quote_copied {r} z n h a' e' x y =
       let o = starts z n in
       let g = o.0 in
       let k = o.1 in
       subst (λ (d : Step). Said t q q' d (step_at t i')) z (step_moved (omega arith)) n h a' e' x y
     where
-      starts : step_at s i ≡ Refused r → r.number ≡ 5 → (r.start ≡ skip_all s i) × (r.end ≡ skip_all s i + 2)
+      starts : step_at s i ≡ Err r → r.number ≡ 5 → (r.start ≡ skip_all s i) × (r.end ≡ skip_all s i + 2)
       starts z = subst (Starts (skip_all s i)) z (step_starts s i)
 
 -- the look at a place, told apart: a token by the rules, or `f"`
 module _ (s : List ℕ) (i : ℕ) (x : Token) (j : ℕ) where
   pub data Seen : Type 0 where
-    by_rule : (w a : ℕ) (n : Cursor) → step_at s i ≡ Taken w a n → x ≡ token_for w a n.at (literal_of (code_of w) (slice a n.at s)) → n.at ≡ j → Seen
-    by_quote : (r : Refusal) → step_at s i ≡ Refused r → r.number ≡ 5 → x ≡ token_for f_quote r.start r.end Literal.None → r.end ≡ j → Seen
+    by_rule : (w a : ℕ) (n : Cursor) → step_at s i ≡ Ok (w, a, n) → x ≡ token_for w a n.at (literal_of (code_of w) (slice a n.at s)) → n.at ≡ j → Seen
+    by_quote : (r : Refusal) → step_at s i ≡ Err r → r.number ≡ 5 → x ≡ token_for f_quote r.start r.end None → r.end ≡ j → Seen
 
   pub seen : (source s).look i ≡ found x j → Seen
   seen = by (step_at s i) refl
     where
-      after : (b c : Bool) (r : Refusal) → step_at s i ≡ Refused r → eqb r.number 5 ≡ c → look_after b c r ≡ found x j → Seen
+      after : (b c : Bool) (r : Refusal) → step_at s i ≡ Err r → eqb r.number 5 ≡ c → look_after b c r ≡ found x j → Seen
       after true c r e h z = let v : ◌≡◌ {A = ℕ} 0 1 = cc in absurd (omega arith)
       after false true r e h z = by_quote r e (eqb-true r.number 5 h) (cc) (cc)
       after false false r e h z = let v : ◌≡◌ {A = ℕ} 0 1 = cc in absurd (omega arith)
 
       by : (k : Step) → step_at s i ≡ k → look_of s k ≡ found x j → Seen
-      by (Taken w a n) e z = by_rule w a n e (cc) (cc)
-      by (Refused r) e z = after (eqb r.number 11) (eqb r.number 5) r e refl z
+      by (Ok (w, a, n)) e z = by_rule w a n e (cc) (cc)
+      by (Err r) e z = after (eqb r.number 11) (eqb r.number 5) r e refl z
 
 -- a token begins behind what is skipped
 pub look_start : (s : List ℕ) (i : ℕ) (x : Token) (j : ℕ) → (source s).look i ≡ found x j → x.start ≡ skip_all s i
@@ -128,7 +127,7 @@ look_start s i x j z = by (seen s i x j z)
     by (by_rule w a n e v u) = ap (λ (o : Token). o.start) v ∙ subst (Starts (skip_all s i)) e (step_starts s i)
     by (by_quote r e m v u) = ap (λ (o : Token). o.start) v ∙ (starts e m).0
       where
-        starts : step_at s i ≡ Refused r → r.number ≡ 5 → (r.start ≡ skip_all s i) × (r.end ≡ skip_all s i + 2)
+        starts : step_at s i ≡ Err r → r.number ≡ 5 → (r.start ≡ skip_all s i) × (r.end ≡ skip_all s i + 2)
         starts z = subst (Starts (skip_all s i)) z (step_starts s i)
 
 -- and ends where the next is looked for
@@ -158,10 +157,10 @@ no_piece w h = subst (λ (b : Bool). T (not b)) (sym (ap (λ (b : Bool). b || (e
 pub look_lies : (s : List ℕ) (i : ℕ) (x : Token) (j : ℕ) → (source s).look i ≡ found x j → (i ≤ x.start) × (x.start < j) × T (not (is_piece x.word)) × (j ≤ length s)
 look_lies s i x j z = by (seen s i x j z)
   where
-    small : {w a : ℕ} {n : Cursor} → Steps s i (Taken w a n) → w < 91
+    small : {w a : ℕ} {n : Cursor} → Steps s i (Ok (w, a, n)) → w < 91
     small (steps_token h m p v) = omega arith
 
-    quote_in : {r : Refusal} → Steps s i (Refused r) → r.number ≡ 5 → r.end ≤ length s
+    quote_in : {r : Refusal} → Steps s i (Err r) → r.number ≡ 5 → r.end ≤ length s
     quote_in steps_over h = absurd (omega arith)
     quote_in (steps_quote c l m) h = m
     quote_in (steps_wrong c) h = absurd (omega arith)
@@ -183,7 +182,7 @@ look_lies s i x j z = by (seen s i x j z)
         let c : f_quote ≡ x.word = sym (ap (λ (o : Token). o.word) v) in
         (omega arith, omega arith, subst (λ (m : ℕ). T (not (is_piece m))) c tt, let f = quote_in (subst (Steps s i) e (step_goes s i)) m in omega arith)
       where
-        starts : step_at s i ≡ Refused r → r.number ≡ 5 → (r.start ≡ skip_all s i) × (r.end ≡ skip_all s i + 2)
+        starts : step_at s i ≡ Err r → r.number ≡ 5 → (r.start ≡ skip_all s i) × (r.end ≡ skip_all s i + 2)
         starts z = subst (Starts (skip_all s i)) z (step_starts s i)
 
 module _ {s t : List ℕ} {lo q q' : ℕ} (copy : Copied s t lo q q') (stop : is_stop (byte_at t q') ≡ true) (closes : eqb (byte_at t q') 34 ≡ true → eqb (byte_at s q) 34 ≡ true)

@@ -1,4 +1,5 @@
 -- The text of a print has no byte of 128 or more, and is a source that passes 1, 2 and 3 where it isn't too long.
+use Rattle.std.specs.Prelude.{None, Ok}
 use mathlib.Core.Path.{◌≡◌, refl, subst}
 use mathlib.Core.List.{List, [], ◌∷◌, ◌++◌}
 use mathlib.Core.Bool.{Bool, true, false, not, ◌&&◌, cond}
@@ -11,11 +12,10 @@ use borrow.Author.Tests.{ltb-false}
 use Rattle.chars.specs.declared.Class.TheVariants.{Ascii}
 use Rattle.chars.specs.Chars.{byte_at, is_class}
 use Rattle.chars.specs.Runs.{span, past_span, past_run}
-use Rattle.tokens.specs.declared.Whole.TheVariants.{Fine}
 use Rattle.tokens.specs.Words.{Entry, two_signs, one_signs, keywords}
 use Rattle.tokens.specs.Rules.{pair_at}
 use Rattle.tokens.specs.Tokens.{bad, whole_of}
-use Rattle.values.specs.declared.Literal.{Literal}
+use Rattle.values.specs.Results.{Worth}
 use Rattle.grammar.specs.Grammar.{Ask, Token, found, Stream, Language}
 use Rattle.grammar.specs.Limits.{Counts}
 use Rattle.grammar.specs.Language.{roto}
@@ -74,11 +74,11 @@ run_lows : (s : List ℕ) → length s ≤ past_run (is_class Ascii) s 0 → T (
 unfolding past_run past_span
 run_lows s h = span_lows s (omega arith)
 
-fine_lows : (s : List ℕ) → whole_of s ≡ Fine → T (lows s)
+fine_lows : (s : List ℕ) → whole_of s ≡ (Ok tt) → T (lows s)
 unfolding whole_of
 fine_lows s = by (ltb 65535 (length s)) (ltb (past_run (is_class Ascii) s 0) (length s)) refl
   where
-    by : (u v : Bool) → ltb (past_run (is_class Ascii) s 0) (length s) ≡ v → cond u (bad 1 65535 65535) (cond v (bad 2 (past_run (is_class Ascii) s 0) (past_run (is_class Ascii) s 0 + 1)) (cond (pair_at s 0 35 33) (bad 3 0 2) Fine)) ≡ Fine → T (lows s)
+    by : (u v : Bool) → ltb (past_run (is_class Ascii) s 0) (length s) ≡ v → cond u (bad 1 65535 65535) (cond v (bad 2 (past_run (is_class Ascii) s 0) (past_run (is_class Ascii) s 0 + 1)) (cond (pair_at s 0 35 33) (bad 3 0 2) (Ok tt))) ≡ (Ok tt) → T (lows s)
     by true v e z = let n : ◌≡◌ {A = ℕ} 0 1 = cc in absurd (omega arith)
     by false true e z = let n : ◌≡◌ {A = ℕ} 0 1 = cc in absurd (omega arith)
     by false false e z = run_lows s (ltb-false (past_run (is_class Ascii) s 0) (length s) e)
@@ -104,7 +104,7 @@ one_more : (x : Bit) (bs : List Bit) → T (lows (spelling x)) → T (lows (spac
 unfolding spaced
 one_more x bs h k = lows_two (spelling x) (blank_between (ends_line x) bs ++ spaced bs) h (lows_two (blank_between (ends_line x) bs) (spaced bs) (blank_lows (ends_line x) bs) k)
 
-module _ (s : List ℕ) (l : Language) (F : Ask → Counts → Token → Bool) (fine : whole_of s ≡ Fine) where
+module _ (s : List ℕ) (l : Language) (F : Ask → Counts → Token → Bool) (fine : whole_of s ≡ (Ok tt)) where
   print_lows : {bs : List Bit} {xs : List Token} → Spelt s l F bs xs → T (lows (spaced bs))
   unfolding spaced
   print_lows spelt_none = tt
@@ -114,7 +114,7 @@ module _ (s : List ℕ) (l : Language) (F : Ask → Counts → Token → Bool) (
 
 -- a print begins with a token, or is empty
 opens : (s : List ℕ) (l : Language) (F : Ask → Counts → Token → Bool) {x : Bit} {bs : List Bit} {xs : List Token} → Spelt s l F (x ∷ bs) xs → (y : Token) × (ys : List Token) × (xs ≡ y ∷ ys) × T (not (is_piece y.word))
-opens s l F (spelt_sign {c = c} {xs = xs} g u) = (token_for c 0 0 Literal.None, xs, refl, no_piece_sign c g)
+opens s l F (spelt_sign {c = c} {xs = xs} g u) = (token_for c 0 0 None, xs, refl, no_piece_sign c g)
 opens s l F (spelt_token {x = x} i j {xs = xs} g n u) = (x, xs, refl, (look_lies s i x j g).2)
 opens s l F (spelt_string {x = x} {p = p} d i j q {xs = xs} g o y u) = (x, tokens_of p ++ xs, refl, (look_lies s i x j g).2)
 
@@ -140,5 +140,5 @@ module _ (tests : Bool) (s : List ℕ) (F : Ask → Counts → Token → Bool) w
           let f = shown_first o.3 (subst (λ (z : List Token). Shown (source w) (Again s w (roto tests) F) z 0 v.stop) o.2 v.shown) in
           absurd (shebang_no_token w e f.2)
 
-  pub print_fine : {bs : List Bit} {xs : List Token} → whole_of s ≡ Fine → Spelt s (roto tests) F bs xs → T (last_line bs) → length (spaced bs) ≤ 65535 → whole_of (spaced bs) ≡ Fine
+  pub print_fine : {bs : List Bit} {xs : List Token} → whole_of s ≡ (Ok tt) → Spelt s (roto tests) F bs xs → T (last_line bs) → length (spaced bs) ≤ 65535 → whole_of (spaced bs) ≡ (Ok tt)
   print_fine {bs = bs} fine u h short = low_fine (spaced bs) short (λ at k. lows_byte (spaced bs) at (print_lows s (roto tests) F fine u) k) (no_shebang bs u h)

@@ -1,4 +1,5 @@
 -- A piece of an f-string's text that ends inside a copy whose last byte is a quote is that piece in the copy.
+use Rattle.std.specs.Prelude.{Some, None}
 use mathlib.Core.Path.{◌≡◌, refl, sym, ap, ◌∙◌, subst}
 use mathlib.Core.Logic.{◌⊎◌, inl, inr}
 use mathlib.Core.List.{List, [], ◌∷◌, ◌++◌}
@@ -13,15 +14,16 @@ use Rattle.chars.specs.Chars.{byte_at}
 use Rattle.chars.proofs.Runs.{byte_drop}
 use Rattle.texts.specs.declared.Mode.{Mode}
 use Rattle.texts.specs.declared.Mode.TheVariants.{Text, Escape, Letter, Code, Brace, Hole, Last, Torn}
+use Rattle.texts.specs.Results.{Scanned}
 use Rattle.texts.specs.declared.Part.{Part}
-use Rattle.texts.specs.declared.Part.TheVariants.{Before, Ends, None}
+use Rattle.texts.specs.declared.Part.TheVariants.{Before, Ends}
 use Rattle.texts.specs.Signs.{backslash, quote, open_brace, close_brace, small_u, capital_u}
 use Rattle.texts.specs.Parts.{part_at}
 use Rattle.texts.specs.Modes.{mode_after, scans, ended_at, modes_from}
 use Rattle.texts.specs.Texts.{text_of}
 use Rattle.texts.proofs.Items.{stays, modes_part}
 use Rattle.texts.proofs.Parts.{Parted, parted_before, parted_ends, parted_none, part_lies}
-use Rattle.strings.specs.declared.Size.{Size}
+use Rattle.strings.specs.Results.{Size}
 use Rattle.grammar.specs.Words.{text_then_hole, last_text}
 use Rattle.grammar.specs.Grammar.{Token, found}
 use Rattle.answers.specs.Source.{source, text_token, piece_of}
@@ -57,9 +59,9 @@ read_after Last b = omega arith
 read_after Torn b = omega arith
 
 -- a piece ends no earlier than before what was read of its end
-abbrev Far : ℕ → ℕ → Part → Type 0
-Far k n (Before e) = k ≤ e + n
-Far k n (Ends e) = k ≤ e + n
+abbrev Far : ℕ → ℕ → Scanned → Type 0
+Far k n (Some (Before e)) = k ≤ e + n
+Far k n (Some (Ends e)) = k ≤ e + n
 Far k n None = Unit {0}
 
 ended_far : (m : Mode) (k : ℕ) → Far k (read m) (ended_at m k)
@@ -72,9 +74,9 @@ ended_far Hole k = omega arith
 ended_far Last k = omega arith
 ended_far Torn k = tt
 
-nearer : (k n n' : ℕ) (p : Part) → n' ≤ n + 1 → Far (k + 1) n' p → Far k n p
-nearer k n n' (Before e) h g = omega arith
-nearer k n n' (Ends e) h g = omega arith
+nearer : (k n n' : ℕ) (p : Scanned) → n' ≤ n + 1 → Far (k + 1) n' p → Far k n p
+nearer k n n' (Some (Before e)) h g = omega arith
+nearer k n n' (Some (Ends e)) h g = omega arith
 nearer k n n' None h g = tt
 
 far : (m : Mode) (k : ℕ) (l : List ℕ) → Far k (read m) (modes_from m k l)
@@ -103,9 +105,9 @@ settled Last [] = tt
 settled Torn [] = tt
 settled m (b ∷ x) = settled (mode_after m b) x
 
-abbrev pub Moved : ℕ → ℕ → Part → Part → Type 0
-Moved z z' (Before e) p = e + 1 ≤ z → (e' : ℕ) → e + z' ≡ e' + z → p ≡ Before e'
-Moved z z' (Ends e) p = e + 1 ≤ z → (e' : ℕ) → e + z' ≡ e' + z → p ≡ Ends e'
+abbrev pub Moved : ℕ → ℕ → Scanned → Scanned → Type 0
+Moved z z' (Some (Before e)) p = e + 1 ≤ z → (e' : ℕ) → e + z' ≡ e' + z → p ≡ Some (Before e')
+Moved z z' (Some (Ends e)) p = e + 1 ≤ z → (e' : ℕ) → e + z' ≡ e' + z → p ≡ Some (Ends e')
 Moved z z' None p = Unit {0}
 
 module _ (z z' : ℕ) where
@@ -115,19 +117,19 @@ module _ (z z' : ℕ) where
   ended_moved Letter k k' h h' at = tt
   ended_moved Code k k' h h' at = tt
   ended_moved Brace k k' h h' at = tt
-  ended_moved Hole k k' h h' at = λ g e' x. ap Before (omega arith)
-  ended_moved Last k k' h h' at = λ g e' x. ap Ends (omega arith)
+  ended_moved Hole k k' h h' at = λ g e' x. ap (λ (z : ℕ). Some (Before z)) (omega arith)
+  ended_moved Last k k' h h' at = λ g e' x. ap (λ (z : ℕ). Some (Ends z)) (omega arith)
   ended_moved Torn k k' h h' at = tt
 
-  too_far : (k : ℕ) (p p' : Part) → z ≤ k → Far k 0 p → Moved z z' p p'
-  too_far k (Before e) p' h g = λ n. absurd (omega arith)
-  too_far k (Ends e) p' h g = λ n. absurd (omega arith)
+  too_far : (k : ℕ) (p p' : Scanned) → z ≤ k → Far k 0 p → Moved z z' p p'
+  too_far k (Some (Before e)) p' h g = λ n. absurd (omega arith)
+  too_far k (Some (Ends e)) p' h g = λ n. absurd (omega arith)
   too_far k None p' h g = tt
 
   -- where the scan has ended, both answers are known
   both_ended : (m : Mode) (k k' : ℕ) (y y' : List ℕ) → scans m ≡ false → read m ≤ k → read m ≤ k' → k + z' ≡ k' + z → Moved z z' (modes_from m k y) (modes_from m k' y')
   both_ended m k k' y y' e h h' at =
-      subst (λ (p : Part). Moved z z' p (modes_from m k' y')) (sym (stays m k y e)) (subst (Moved z z' (ended_at m k)) (sym (stays m k' y' e)) (ended_moved m k k' h h' at))
+      subst (λ (p : Scanned). Moved z z' p (modes_from m k' y')) (sym (stays m k y e)) (subst (Moved z z' (ended_at m k)) (sym (stays m k' y' e)) (ended_moved m k k' h h' at))
 
   at_end : (m : Mode) (k k' : ℕ) (y y' : List ℕ) → Settled m [] → read m ≤ k → read m ≤ k' → k ≡ z → k' ≡ z' → Moved z z' (modes_from m k y) (modes_from m k' y')
   at_end Text k k' y y' f h h' e e' = too_far k (modes_from Text k y) _ (omega arith) (far Text k y)
@@ -152,23 +154,23 @@ module _ (z z' : ℕ) where
       go false r = ended_moved m k k' h h' (omega arith)
 
 word_of_lem : (w a e : ℕ) (o : Size) → (text_token w a e o).word ≡ w
-word_of_lem w a e (Size.Is n) = refl
-word_of_lem w a e Size.None = refl
+word_of_lem w a e (Some n) = refl
+word_of_lem w a e None = refl
 
 -- a piece doesn't go back, and one with no hole has its quote
 pub piece_lies : (s : List ℕ) (i : ℕ) (x : Token) (j : ℕ) → (source s).piece i ≡ found x j → (i ≤ j) × ((x.word ≡ text_then_hole) ⊎ (i < j))
 piece_lies s i x j z = by (part_at s i) (part_lies s i) z
   where
-    by : (p : Part) → Parted i (length s) p → piece_of s i p ≡ found x j → (i ≤ j) × ((x.word ≡ text_then_hole) ⊎ (i < j))
-    by (Before e) (parted_before g k) f =
+    by : (p : Scanned) → Parted i (length s) p → piece_of s i p ≡ found x j → (i ≤ j) × ((x.word ≡ text_then_hole) ⊎ (i < j))
+    by (Some (Before e)) (parted_before g k) f =
         let u : e ≡ j = cc in
         let c : text_token text_then_hole i e (text_of (slice i e s)) ≡ x = cc in
         (omega arith, inl (sym (ap (λ (o : Token). o.word) c) ∙ word_of_lem text_then_hole i e (text_of (slice i e s))))
-    by (Ends e) (parted_ends g k) f = let u : e + 1 ≡ j = cc in (omega arith, inr (omega arith))
+    by (Some (Ends e)) (parted_ends g k) f = let u : e + 1 ≡ j = cc in (omega arith, inr (omega arith))
     by None parted_none f = let v : ◌≡◌ {A = ℕ} 0 1 = cc in absurd (omega arith)
 
 -- where a text ends that no hole follows, its quote stands
-ended_last : (m : Mode) (k e : ℕ) → ended_at m k ≡ Ends e → (m ≡ Last) × (k - 1 ≡ e)
+ended_last : (m : Mode) (k e : ℕ) → ended_at m k ≡ Some (Ends e) → (m ≡ Last) × (k - 1 ≡ e)
 ended_last Text k e z = let v : ◌≡◌ {A = ℕ} 0 1 = cc in absurd (omega arith)
 ended_last Escape k e z = let v : ◌≡◌ {A = ℕ} 0 1 = cc in absurd (omega arith)
 ended_last Letter k e z = let v : ◌≡◌ {A = ℕ} 0 1 = cc in absurd (omega arith)
@@ -202,19 +204,19 @@ last_after Torn b f z = absurd (true≢false (sym f))
 pub byte_tail : (b : ℕ) (l : List ℕ) (n m : ℕ) → m ≡ n + 1 → byte_at (b ∷ l) m ≡ byte_at l n
 byte_tail b l n m e = ap (byte_at (b ∷ l)) {x = m} {y = 1 + n} (omega arith) ∙ sym (byte_drop (b ∷ l) 1 n)
 
-quote_ends : (m : Mode) (k : ℕ) (l : List ℕ) (e : ℕ) → scans m ≡ true → modes_from m k l ≡ Ends e → (k ≤ e) × (e < k + length l) × (byte_at l (e - k) ≡ quote)
+quote_ends : (m : Mode) (k : ℕ) (l : List ℕ) (e : ℕ) → scans m ≡ true → modes_from m k l ≡ Some (Ends e) → (k ≤ e) × (e < k + length l) × (byte_at l (e - k) ≡ quote)
 unfolding modes_from
 quote_ends m k [] e f z = absurd (true≢false (sym f ∙ ap scans (ended_last m k e z).0))
 quote_ends m k (b ∷ l) e f z = next (scans (mode_after m b)) refl (quote_ends (mode_after m b) (k + 1) l e)
   where
-    goes : (u : Bool) → u ≡ true → elim u [ true ↦ modes_from (mode_after m b) (k + 1) l | false ↦ ended_at m k ] ≡ Ends e → modes_from (mode_after m b) (k + 1) l ≡ Ends e
+    goes : (u : Bool) → u ≡ true → elim u [ true ↦ modes_from (mode_after m b) (k + 1) l | false ↦ ended_at m k ] ≡ Some (Ends e) → modes_from (mode_after m b) (k + 1) l ≡ Some (Ends e)
     goes true g y = y
     goes false g y = absurd (true≢false (sym g))
 
-    on : modes_from (mode_after m b) (k + 1) l ≡ Ends e
+    on : modes_from (mode_after m b) (k + 1) l ≡ Some (Ends e)
     on = goes (scans m) f z
 
-    next : (u : Bool) → scans (mode_after m b) ≡ u → (scans (mode_after m b) ≡ true → modes_from (mode_after m b) (k + 1) l ≡ Ends e → (k + 1 ≤ e) × (e < k + 1 + length l) × (byte_at l (e - (k + 1)) ≡ quote)) → (k ≤ e) × (e < k + length (b ∷ l)) × (byte_at (b ∷ l) (e - k) ≡ quote)
+    next : (u : Bool) → scans (mode_after m b) ≡ u → (scans (mode_after m b) ≡ true → modes_from (mode_after m b) (k + 1) l ≡ Some (Ends e) → (k + 1 ≤ e) × (e < k + 1 + length l) × (byte_at l (e - (k + 1)) ≡ quote)) → (k ≤ e) × (e < k + length (b ∷ l)) × (byte_at (b ∷ l) (e - k) ≡ quote)
     next true g ih =
         let r = ih g on in
         let r₀ = r.0 in
@@ -228,9 +230,9 @@ quote_ends m k (b ∷ l) e f z = next (scans (mode_after m b)) refl (quote_ends 
 pub piece_quote : (s : List ℕ) (i : ℕ) (x : Token) (j : ℕ) → (source s).piece i ≡ found x j → (x.word ≡ text_then_hole → ⊥) → (e : ℕ) × (j ≡ e + 1) × (byte_at s e ≡ quote) × (e < length s)
 piece_quote s i x j z none = by (part_at s i) refl z
   where
-    by : (p : Part) → part_at s i ≡ p → piece_of s i p ≡ found x j → (e : ℕ) × (j ≡ e + 1) × (byte_at s e ≡ quote) × (e < length s)
-    by (Before e) o f = let c : text_token text_then_hole i e (text_of (slice i e s)) ≡ x = cc in absurd (none (sym (ap (λ (v : Token). v.word) c) ∙ word_of_lem text_then_hole i e (text_of (slice i e s))))
-    by (Ends e) o f =
+    by : (p : Scanned) → part_at s i ≡ p → piece_of s i p ≡ found x j → (e : ℕ) × (j ≡ e + 1) × (byte_at s e ≡ quote) × (e < length s)
+    by (Some (Before e)) o f = let c : text_token text_then_hole i e (text_of (slice i e s)) ≡ x = cc in absurd (none (sym (ap (λ (v : Token). v.word) c) ∙ word_of_lem text_then_hole i e (text_of (slice i e s))))
+    by (Some (Ends e)) o f =
         let u : e + 1 ≡ j = cc in
         let r = quote_ends Text i (drop i s) e refl (modes_part s i ∙ o) in
         let r₀ = r.0 in
@@ -244,12 +246,12 @@ pub piece_last : (s : List ℕ) (i : ℕ) (x : Token) (j : ℕ) → (source s).p
 piece_last s i x j z none = by (part_at s i) z
   where
     ends : (w a e : ℕ) (n : Size) → (text_token w a e n).end ≡ e
-    ends w a e (Size.Is n) = refl
-    ends w a e Size.None = refl
+    ends w a e (Some n) = refl
+    ends w a e None = refl
 
-    by : (p : Part) → piece_of s i p ≡ found x j → (x.end + 1 ≡ j) × T (is_piece x.word)
-    by (Before e) f = let c : text_token text_then_hole i e (text_of (slice i e s)) ≡ x = cc in absurd (none (sym (ap (λ (v : Token). v.word) c) ∙ word_of_lem text_then_hole i e (text_of (slice i e s))))
-    by (Ends e) f =
+    by : (p : Scanned) → piece_of s i p ≡ found x j → (x.end + 1 ≡ j) × T (is_piece x.word)
+    by (Some (Before e)) f = let c : text_token text_then_hole i e (text_of (slice i e s)) ≡ x = cc in absurd (none (sym (ap (λ (v : Token). v.word) c) ∙ word_of_lem text_then_hole i e (text_of (slice i e s))))
+    by (Some (Ends e)) f =
         let u : e + 1 ≡ j = cc in
         let c : text_token last_text i e (text_of (slice i e s)) ≡ x = cc in
         (ap (λ (n : ℕ). n + 1) (sym (ap (λ (v : Token). v.end) c) ∙ ends last_text i e (text_of (slice i e s))) ∙ u, subst (λ (n : ℕ). T (is_piece n)) (sym (word_of_lem last_text i e (text_of (slice i e s))) ∙ ap (λ (v : Token). v.word) c) tt)
@@ -269,7 +271,7 @@ module _ {s t : List ℕ} {lo : ℕ} (q q' : ℕ) (copy : Copied s t lo (q + 1) 
       let a : drop i s ≡ x ++ drop (q + 1) s = in_two s i (q + 1) (omega arith) in_s in
       let a' : drop i' t ≡ x ++ drop (q' + 1) t = in_two t i' (q' + 1) (omega arith) in_t ∙ ap (λ (o : List ℕ). o ++ drop (q' + 1) t) (text_copied copy i i' (q + 1) (q' + 1) l (omega arith) (omega arith) (omega arith) (omega arith)) in
       let r = alike (q + 1) (q' + 1) Text x (drop (q + 1) s) (drop (q' + 1) t) i i' (subst (Settled Text) (sym two) (settled Text (slice i q (take (q + 1) s)))) (omega arith) (omega arith) (omega arith) (omega arith) in
-      subst (λ (p : Part). Moved (q + 1) (q' + 1) p (part_at t i')) (ap (modes_from Text i) (sym a) ∙ modes_part s i)
+      subst (λ (p : Scanned). Moved (q + 1) (q' + 1) p (part_at t i')) (ap (modes_from Text i) (sym a) ∙ modes_part s i)
       (subst (Moved (q + 1) (q' + 1) (modes_from Text i (x ++ drop (q + 1) s))) (ap (modes_from Text i') (sym a') ∙ modes_part t i') r)
 
   -- as the grammar sees it; a hole's piece ends before the quote
@@ -278,8 +280,8 @@ module _ {s t : List ℕ} {lo : ℕ} (q q' : ℕ) (copy : Copied s t lo (q + 1) 
   piece_copied i i' j j' x l h at z top hole to = by (part_at s i) (part_copied i i' l h at) (part_lies s i) z
     where
       sized : (w a e a' e' : ℕ) (o : Size) → bare (text_token w a e o) ≡ bare (text_token w a' e' o)
-      sized w a e a' e' (Size.Is n) = refl
-      sized w a e a' e' Size.None = refl
+      sized w a e a' e' (Some n) = refl
+      sized w a e a' e' None = refl
 
       -- the same piece from a' to e' of the copy
       same : (w e e' : ℕ) → T (is_piece w) → text_token w i e (text_of (slice i e s)) ≡ x → i ≤ e → e ≤ q → e + q' ≡ e' + q
@@ -289,15 +291,15 @@ module _ {s t : List ℕ} {lo : ℕ} (q q' : ℕ) (copy : Copied s t lo (q + 1) 
         subst (λ (n : ℕ). T (is_piece n)) (sym (word_of_lem w i e (text_of (slice i e s))) ∙ ap (λ (o : Token). o.word) c) p,
       )
 
-      by : (p : Part) → Moved (q + 1) (q' + 1) p (part_at t i') → Parted i (length s) p → piece_of s i p ≡ found x j → (y : Token) × ((source t).piece i' ≡ found y j') × (bare y ≡ bare x) × T (is_piece x.word)
-      by (Before e) m (parted_before g k) f =
+      by : (p : Scanned) → Moved (q + 1) (q' + 1) p (part_at t i') → Parted i (length s) p → piece_of s i p ≡ found x j → (y : Token) × ((source t).piece i' ≡ found y j') × (bare y ≡ bare x) × T (is_piece x.word)
+      by (Some (Before e)) m (parted_before g k) f =
           let u : e ≡ j = cc in
           let c : text_token text_then_hole i e (text_of (slice i e s)) ≡ x = cc in
           let b = hole (sym (ap (λ (o : Token). o.word) c) ∙ word_of_lem text_then_hole i e (text_of (slice i e s))) in
           let d = m (omega arith) j' (omega arith) in
           let r = same text_then_hole e j' tt c g (omega arith) (omega arith) in
           (text_token text_then_hole i' j' (text_of (slice i' j' t)), ap (piece_of t i') d, r.0, r.1)
-      by (Ends e) m (parted_ends g k) f =
+      by (Some (Ends e)) m (parted_ends g k) f =
           let u : e + 1 ≡ j = cc in
           let c : text_token last_text i e (text_of (slice i e s)) ≡ x = cc in
           let e' : ℕ = i' + (e - i) in

@@ -1,4 +1,5 @@
 -- The bytes of a token with a stop behind them, as a list, are that token again.
+use Rattle.std.specs.Prelude.{None, Ok, Err}
 use mathlib.Core.Path.{◌≡◌, refl, sym, ap, ◌∙◌, subst}
 use mathlib.Core.List.{List, [], ◌∷◌, ◌++◌}
 use mathlib.Core.Bool.{Bool, true, false, ◌&&◌, ◌||◌, true≢false}
@@ -10,12 +11,11 @@ use lib.Dec.{eqb, ltb}
 use borrow.Author.Tests.{eqb-true, ltb-true}
 use Rattle.chars.specs.Chars.{byte_at, is_class}
 use Rattle.chars.proofs.Runs.{byte_in, byte_drop}
-use Rattle.tokens.specs.declared.Step.{Step}
-use Rattle.tokens.specs.declared.Step.TheVariants.{Taken, Refused}
+use Rattle.tokens.specs.Results.{Step}
 use Rattle.tokens.specs.Words.{Entry, two_signs, one_signs, keywords, code_of}
 use Rattle.tokens.specs.Rules.{taken, token_at}
 use Rattle.tokens.specs.Tokens.{step_at}
-use Rattle.values.specs.declared.Literal.{Literal}
+use Rattle.values.specs.Results.{Worth}
 use Rattle.values.specs.Literals.{literal_of}
 use Rattle.grammar.specs.Grammar.{Token, found, one_of}
 use Rattle.answers.specs.Source.{source, look_of, token_for}
@@ -92,8 +92,8 @@ module _ (s w x y y' : List ℕ) (i p b : ℕ) (old : drop i s ≡ x ++ y) (new 
 
 -- The words of the lexer's own lists. A text with a blank behind it is its word:
 abbrev is_taken : Step → ℕ → ℕ → Bool
-is_taken (Taken w a n) c e = eqb w c && (eqb a 0 && eqb n.at e)
-is_taken (Refused r) c e = false
+is_taken (Ok (w, a, n)) c e = eqb w c && (eqb a 0 && eqb n.at e)
+is_taken (Err r) c e = false
 
 abbrev pub spells : Entry → Bool
 spells x = ltb 0 (length x.text) && is_taken (step_at (x.text ++ (32 ∷ [])) 0) x.word (length x.text)
@@ -108,20 +108,20 @@ every_word_spells = refl
 
 taken_is : (k : Step) (c e : ℕ) → is_taken k c e ≡ true → k ≡ taken 0 e c
 unfolding taken
-taken_is (Taken w a n) c e h =
+taken_is (Ok (w, a, n)) c e h =
     let x = eqb-true w c (left_true (eqb w c) _ h) in
     let r = right_true (eqb w c) (eqb a 0 && eqb n.at e) h in
     let y = eqb-true a 0 (left_true (eqb a 0) _ r) in
     let z = eqb-true n.at e (right_true (eqb a 0) (eqb n.at e) r) in
-    ap (λ (v : ℕ). Taken v a n) x ∙ ap (λ (v : ℕ). Taken c v n) y ∙ ap (λ (v : ℕ). Taken c 0 (record { at = v })) z
-taken_is (Refused r) c e h = absurd (true≢false (sym h))
+    ap (λ (v : ℕ). Ok (v, a, n)) x ∙ ap (λ (v : ℕ). Ok (c, v, n)) y ∙ ap (λ (v : ℕ). Ok (c, 0, record { at = v })) z
+taken_is (Err r) c e h = absurd (true≢false (sym h))
 
 -- a sign or keyword is no literal
-no_literal : (k : ℕ) (t : List ℕ) → one_of k (3 ∷ 4 ∷ 11 ∷ []) ≡ true → literal_of k t ≡ Literal.None
+no_literal : (k : ℕ) (t : List ℕ) → one_of k (3 ∷ 4 ∷ 11 ∷ []) ≡ true → literal_of k t ≡ None
 unfolding literal_of
 no_literal k t = by (eqb k 3) refl (eqb k 4) refl (eqb k 11) refl
   where
-    by : (a : Bool) → eqb k 3 ≡ a → (b : Bool) → eqb k 4 ≡ b → (c : Bool) → eqb k 11 ≡ c → (a || (b || (c || false))) ≡ true → literal_of k t ≡ Literal.None
+    by : (a : Bool) → eqb k 3 ≡ a → (b : Bool) → eqb k 4 ≡ b → (c : Bool) → eqb k 11 ≡ c → (a || (b || (c || false))) ≡ true → literal_of k t ≡ None
     by true e b f c g h = ap (λ (n : ℕ). literal_of n t) (eqb-true k 3 e)
     by false e true f c g h = ap (λ (n : ℕ). literal_of n t) (eqb-true k 4 f)
     by false e false f true g h = ap (λ (n : ℕ). literal_of n t) (eqb-true k 11 g)
@@ -135,6 +135,6 @@ module _ (x : Entry) (told : spells x ≡ true) (w y' : List ℕ) (p b : ℕ) (n
       let z = taken_is (step_at (x.text ++ (32 ∷ [])) 0) x.word (length x.text) (right_true (ltb 0 (length x.text)) _ told) in
       step_respelled (x.text ++ (32 ∷ [])) w x.text (32 ∷ []) y' 0 p b refl new n stops other x.word (z ∙ ap (λ (e : ℕ). taken 0 e x.word) {x = length x.text} {y = 0 + length x.text} (omega arith))
 
-  pub sign_look : one_of (code_of x.word) (3 ∷ 4 ∷ 11 ∷ []) ≡ true → (source w).look p ≡ found (token_for x.word p (p + length x.text) Literal.None) (p + length x.text)
+  pub sign_look : one_of (code_of x.word) (3 ∷ 4 ∷ 11 ∷ []) ≡ true → (source w).look p ≡ found (token_for x.word p (p + length x.text) None) (p + length x.text)
   unfolding taken
-  sign_look h = ap (look_of w) spelled_sign ∙ ap (λ (o : Literal). found (token_for x.word p (p + length x.text) o) (p + length x.text)) (no_literal (code_of x.word) (slice p (p + length x.text) w) h)
+  sign_look h = ap (look_of w) spelled_sign ∙ ap (λ (o : Worth). found (token_for x.word p (p + length x.text) o) (p + length x.text)) (no_literal (code_of x.word) (slice p (p + length x.text) w) h)

@@ -1,4 +1,5 @@
 -- A print: where its text stands, its tokens are shown, one after the other up to the end.
+use Rattle.std.specs.Prelude.{None}
 use mathlib.Core.Path.{◌≡◌, refl, sym, ap, ◌∙◌, subst}
 use mathlib.Core.List.{List, [], ◌∷◌, ◌++◌}
 use mathlib.Core.Bool.{Bool, true, false, not, ◌||◌, cond, true≢false}
@@ -12,7 +13,7 @@ use Rattle.chars.specs.Chars.{byte_at, is_blank}
 use Rattle.tokens.specs.Words.{Entry, two_signs, one_signs, keywords, code_of}
 use Rattle.tokens.specs.Blanks.{skipped, skip_all}
 use Rattle.texts.specs.Signs.{quote}
-use Rattle.values.specs.declared.Literal.{Literal}
+use Rattle.values.specs.Results.{Worth}
 use Rattle.grammar.specs.Words.{f_quote, text_then_hole, last_text}
 use Rattle.grammar.specs.Grammar.{Ask, Symbol, Token, found, Language, In, alternatives, one_of}
 use Rattle.grammar.specs.Limits.{Counts}
@@ -81,7 +82,7 @@ module _ (s w : List ℕ) (l : Language) (hole-word : l.hole ≡ text_then_hole)
   Q = Again s w l G
 
   -- a sign has no bytes to copy
-  sign_again : (c : ℕ) {y : Token} → Like (token_for c 0 0 Literal.None) y → Q (token_for c 0 0 Literal.None) y
+  sign_again : (c : ℕ) {y : Token} → Like (token_for c 0 0 None) y → Q (token_for c 0 0 None) y
   sign_again c e = record { like = e; moved = λ o n. absurd (none o) }
     where
       none : 0 < 0 → ⊥
@@ -136,7 +137,7 @@ module _ (s w : List ℕ) (l : Language) (hole-word : l.hole ≡ text_then_hole)
       let look = sign_look x z.1 w (spaced bs) p b.blank new b.stops b.other code in
       let n = behind_in x.text (spaced bs) p b.blank new k in
       let r = spaced_shown u b.rest (p + length x.text + 1) (p + length x.text) (rest_at x.text (spaced bs) p b.blank new) n (next_skips x.text (spaced bs) p b.blank new b.skips) in
-      record { stop = r.stop; shown = shown_token (look_same p₀ p f ∙ look) (sign_again c (ap (λ (v : ℕ). token_for v 0 0 Literal.None) z.3)) (no_piece_sign c g) r.shown; over = r.over }
+      record { stop = r.stop; shown = shown_token (look_same p₀ p f ∙ look) (sign_again c (ap (λ (v : ℕ). token_for v 0 0 None) z.3)) (no_piece_sign c g) r.shown; over = r.over }
   spaced_shown (spelt_token {x = x} i j {bs = bs} g o u) h p p₀ e k f =
       let b = behind (copy (slice x.start j s)) bs h in
       let t : List ℕ = slice x.start j s in

@@ -1,4 +1,5 @@
 -- How a rule answers, and how a run or a test in a source stands to one in its copy.
+use Rattle.std.specs.Prelude.{Some, None}
 use mathlib.Core.Path.{◌≡◌, refl, sym, ap, ◌∙◌}
 use mathlib.Core.Logic.{inl, inr}
 use mathlib.Core.List.{List}
@@ -12,8 +13,8 @@ use Rattle.chars.specs.declared.Class.TheVariants.{Digit, Figure}
 use Rattle.chars.specs.Chars.{byte_at, is_class, is_digit}
 use Rattle.chars.specs.Runs.{past_run}
 use Rattle.chars.proofs.Runs.{outside}
-use Rattle.tokens.specs.declared.Fit.{Fit}
-use Rattle.tokens.specs.declared.Fit.TheVariants.{To, No}
+use Rattle.tokens.proofs.Results.{fit_end, fit_word}
+use Rattle.tokens.specs.Results.{Fit}
 use Rattle.tokens.specs.Rules.{when_fit, then_fit}
 use Rattle.respell.specs.Copies.{Copied}
 use Rattle.respell.proofs.Runs.{run_copied, run_before}
@@ -23,23 +24,23 @@ both true b e f = f
 both false b e f = e
 
 -- what a rule that fits has found
-pub fit_ends : (b : Bool) (c v : ℕ) {e w : ℕ} → when_fit b c v ≡ To e w → (b ≡ true) × (c ≡ e) × (v ≡ w)
+pub fit_ends : (b : Bool) (c v : ℕ) {e w : ℕ} → when_fit b c v ≡ Some (e, w) → (b ≡ true) × (c ≡ e) × (v ≡ w)
 unfolding when_fit
-fit_ends true c v z = (refl, cc, cc)
+fit_ends true c v z = (refl, ap fit_end z, ap fit_word z)
 fit_ends false c v z = let x : ◌≡◌ {A = ℕ} 0 1 = cc in absurd (omega arith)
 
-pub fit : (b : Bool) (c e v : ℕ) → b ≡ true → c ≡ e → when_fit b c v ≡ To e v
+pub fit : (b : Bool) (c e v : ℕ) → b ≡ true → c ≡ e → when_fit b c v ≡ Some (e, v)
 unfolding when_fit
-fit true c e v h k = ap (λ (x : ℕ). To x v) k
+fit true c e v h k = ap (λ (x : ℕ). Some (x, v)) k
 fit false c e v h k = absurd (true≢false (sym h))
 
-pub no_fit : (b : Bool) (c v : ℕ) → b ≡ false → when_fit b c v ≡ No
+pub no_fit : (b : Bool) (c v : ℕ) → b ≡ false → when_fit b c v ≡ None
 unfolding when_fit
 no_fit true c v h = absurd (true≢false h)
 no_fit false c v h = refl
 
 -- a rule whose test holds fits
-pub fit_or : (b : Bool) (c v : ℕ) → when_fit b c v ≡ No → b ≡ true → ⊥
+pub fit_or : (b : Bool) (c v : ℕ) → when_fit b c v ≡ None → b ≡ true → ⊥
 unfolding when_fit
 fit_or true c v z h = let x : ◌≡◌ {A = ℕ} 0 1 = cc in omega arith
 fit_or false c v z h = true≢false (sym h)
@@ -48,24 +49,24 @@ pub not_so : (b : Bool) → (b ≡ true → ⊥) → b ≡ false
 not_so true h = absurd (h refl)
 not_so false h = refl
 
-pub none_fits : (f : Fit) → ((e w : ℕ) → f ≡ To e w → ⊥) → f ≡ No
-none_fits (To e w) h = absurd (h e w refl)
-none_fits No h = refl
+pub none_fits : (f : Fit) → ((e w : ℕ) → f ≡ Some (e, w) → ⊥) → f ≡ None
+none_fits (Some (e, w)) h = absurd (h e w refl)
+none_fits None h = refl
 
-pub then_ends : (f : Fit) (g : ℕ → Fit) {e w : ℕ} → then_fit f g ≡ To e w → (a : ℕ) × (v : ℕ) × (f ≡ To a v) × (g a ≡ To e w)
+pub then_ends : (f : Fit) (g : ℕ → Fit) {e w : ℕ} → then_fit f g ≡ Some (e, w) → (a : ℕ) × (v : ℕ) × (f ≡ Some (a, v)) × (g a ≡ Some (e, w))
 unfolding then_fit
-then_ends (To a v) g z = (a, v, refl, z)
-then_ends No g z = let x : ◌≡◌ {A = ℕ} 0 1 = cc in absurd (omega arith)
+then_ends (Some (a, v)) g z = (a, v, refl, z)
+then_ends None g z = let x : ◌≡◌ {A = ℕ} 0 1 = cc in absurd (omega arith)
 
-pub then_goes : (f : Fit) (g : ℕ → Fit) {a v : ℕ} {x : Fit} → f ≡ To a v → g a ≡ x → then_fit f g ≡ x
+pub then_goes : (f : Fit) (g : ℕ → Fit) {a v : ℕ} {x : Fit} → f ≡ Some (a, v) → g a ≡ x → then_fit f g ≡ x
 unfolding then_fit
 then_goes f g h k = ap (λ (y : Fit). then_fit y g) h ∙ k
 
-pub then_none : (f : Fit) (g : ℕ → Fit) → f ≡ No → then_fit f g ≡ No
+pub then_none : (f : Fit) (g : ℕ → Fit) → f ≡ None → then_fit f g ≡ None
 unfolding then_fit
 then_none f g h = ap (λ (y : Fit). then_fit y g) h
 
-pub never_both : (f : Fit) {e w : ℕ} → f ≡ No → f ≡ To e w → ⊥
+pub never_both : (f : Fit) {e w : ℕ} → f ≡ None → f ≡ Some (e, w) → ⊥
 never_both f h k = let x : ◌≡◌ {A = ℕ} 0 1 = cc in omega arith
 
 pub digit_class : (b : ℕ) → is_digit b ≡ true → is_class Digit b ≡ true

@@ -1,4 +1,5 @@
 -- The rules in their order: a token of s that ends inside the copy is that token in the copy.
+use Rattle.std.specs.Prelude.{Some, None, Ok, Err}
 use mathlib.Core.Path.{◌≡◌, refl, sym, ap, ◌∙◌, subst}
 use mathlib.Core.Logic.{◌⊎◌, inl, inr}
 use mathlib.Core.List.{List}
@@ -10,10 +11,8 @@ use lib.Dec.{eqb, ltb}
 use borrow.Author.Tests.{eqb-true}
 use Rattle.chars.specs.Chars.{byte_at}
 use Rattle.chars.specs.Runs.{past_span}
-use Rattle.tokens.specs.declared.Fit.{Fit}
-use Rattle.tokens.specs.declared.Fit.TheVariants.{To, No}
-use Rattle.tokens.specs.declared.Step.{Step}
-use Rattle.tokens.specs.declared.Step.TheVariants.{Taken, Refused}
+use Rattle.tokens.specs.Results.{Fit}
+use Rattle.tokens.specs.Results.{Step}
 use Rattle.tokens.specs.Rules.{pair_at, ipv6_at, ipv4_at, two_at, one_at, as_at, hex_at, number_at, goes_on, escapes, quote_at, is_name_start, name_at, taken, refused, or_else, token_at}
 use Rattle.respell.specs.Copies.{Copied, is_stop}
 use Rattle.respell.proofs.Tests.{fit_ends, no_fit, is, test_to}
@@ -26,19 +25,19 @@ Room t w e = (w ≡ 9) ⊎ (w ≡ 10) → e < length t
 
 -- what is said at a place of s is said at the same place of the copy: a token that ends inside it, and `f"`
 abbrev pub Said : List ℕ → ℕ → ℕ → Step → Step → Type 0
-Said t q q' (Taken w a n) d = n.at ≤ q → (a' e' : ℕ) → a + q' ≡ a' + q → n.at + q' ≡ e' + q → Room t w e' → d ≡ taken a' e' w
-Said t q q' (Refused r) d = r.number ≡ 5 → r.end ≤ q → (a' e' : ℕ) → r.start + q' ≡ a' + q → r.end + q' ≡ e' + q → d ≡ refused 5 a' e'
+Said t q q' (Ok (w, a, n)) d = n.at ≤ q → (a' e' : ℕ) → a + q' ≡ a' + q → n.at + q' ≡ e' + q → Room t w e' → d ≡ taken a' e' w
+Said t q q' (Err r) d = r.number ≡ 5 → r.end ≤ q → (a' e' : ℕ) → r.start + q' ≡ a' + q → r.end + q' ≡ e' + q → d ≡ refused 5 a' e'
 
-quote_word : (c v : ℕ) (s : List ℕ) (i : ℕ) {e w : ℕ} → quote_at c v s i ≡ To e w → v ≡ w
+quote_word : (c v : ℕ) (s : List ℕ) (i : ℕ) {e w : ℕ} → quote_at c v s i ≡ Some (e, w) → v ≡ w
 unfolding quote_at
 quote_word c v s i z = (fit_ends (eqb (byte_at s i) c && ltb (past_span (goes_on c) escapes false s (i + 1) + 1) (length s)) (past_span (goes_on c) escapes false s (i + 1) + 1) v z).2
 
 module _ {s t : List ℕ} {lo q q' : ℕ} (copy : Copied s t lo q q') (stop : is_stop (byte_at t q') ≡ true) (closes : eqb (byte_at t q') 34 ≡ true → eqb (byte_at s q) 34 ≡ true)
     (i i' : ℕ) (from : lo ≤ i) (inside : i < q) (at : i + q' ≡ i' + q) where
-  or_said : (f f' : Fit) (d d' : Step) → ((e w e' : ℕ) → f ≡ To e w → e ≤ q → e + q' ≡ e' + q → Room t w e' → f' ≡ To e' w) → (f ≡ No → f' ≡ No) → Said t q q' d d' → Said t q q' (or_else i f d) (or_else i' f' d')
+  or_said : (f f' : Fit) (d d' : Step) → ((e w e' : ℕ) → f ≡ Some (e, w) → e ≤ q → e + q' ≡ e' + q → Room t w e' → f' ≡ Some (e', w)) → (f ≡ None → f' ≡ None) → Said t q q' d d' → Said t q q' (or_else i f d) (or_else i' f' d')
   unfolding or_else taken
-  or_said (To e w) f' d d' hit miss k = λ h a' e' x y room. let u : i' ≡ a' = omega arith in ap (λ (g : Fit). or_else i' g d') (hit e w e' refl h y room) ∙ ap (λ (n : ℕ). taken n e' w) u
-  or_said No f' d d' hit miss k = subst (λ (g : Fit). Said t q q' d (or_else i' g d')) (sym (miss refl)) k
+  or_said (Some (e, w)) f' d d' hit miss k = λ h a' e' x y room. let u : i' ≡ a' = omega arith in ap (λ (g : Fit). or_else i' g d') (hit e w e' refl h y room) ∙ ap (λ (n : ℕ). taken n e' w) u
+  or_said None f' d d' hit miss k = subst (λ (g : Fit). Said t q q' d (or_else i' g d')) (sym (miss refl)) k
 
   cond_said : (b b' : Bool) (d d' : Step) → (b ≡ false → b' ≡ false) → (b ≡ true → i + 2 ≤ q → b' ≡ true) → Said t q q' d d' → Said t q q' (cond b (refused 5 i (i + 2)) d) (cond b' (refused 5 i' (i' + 2)) d')
   unfolding refused
@@ -68,12 +67,12 @@ module _ {s t : List ℕ} {lo q q' : ℕ} (copy : Copied s t lo q q') (stop : is
       room_of w e' x room = room (subst (λ (n : ℕ). (n ≡ 9) ⊎ (n ≡ 10)) x is-quote)
 
       go : (f : Fit) → quote_at c v s i ≡ f → (b : Bool) → eqb (byte_at s i) c ≡ b → Said t q q' (or_else i f d) (or_else i' (quote_at c v t i') d')
-      go (To e w) p b l = λ h a' e' x y room.
+      go (Some (e, w)) p b l = λ h a' e' x y room.
           let u : i' ≡ a' = omega arith in
           let o = quote_word c v s i p in
           ap (λ (g : Fit). or_else i' g d') (quote_hit copy c v i i' e e' from at p h y (room_of w e' o room)) ∙ ap (λ (n : ℕ). taken n e' v) u ∙ ap (taken a' e') o
-      go No p true l = none (eqb-true (byte_at s i) c l) (or_else i' (quote_at c v t i') d')
-      go No p false l = subst (λ (g : Fit). Said t q q' d (or_else i' g d')) (sym (quote_not copy t c v i' (test_to copy (is c) i i' from inside at l))) k
+      go None p true l = none (eqb-true (byte_at s i) c l) (or_else i' (quote_at c v t i') d')
+      go None p false l = subst (λ (g : Fit). Said t q q' d (or_else i' g d')) (sym (quote_not copy t c v i' (test_to copy (is c) i i' from inside at l))) k
 
   string_lost : byte_at s i ≡ 34 → Lost (or_else i (quote_at 39 10 s i) (or_else i (name_at s i) (refused 4 i (i + 1))))
   unfolding or_else

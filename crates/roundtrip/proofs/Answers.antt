@@ -1,4 +1,5 @@
 -- An accepted source and its print, by what is answered to each: the reading, the rows in the table, and what they say.
+use Rattle.std.specs.Prelude.{Ok}
 use mathlib.Core.Path.{◌≡◌, refl, sym, ap, subst}
 use mathlib.Core.List.{List, [], ◌∷◌, ◌++◌, head-eq_of_cons-eq, tail-eq_of_cons-eq}
 use mathlib.Core.Bool.{Bool, true, false}
@@ -6,7 +7,6 @@ use Prim.Native.Nat.{ℕ, ◌-◌, ◌*◌}
 use native.Mathlib.Omega.{arith}
 use lib.ListN.{length, replicate}
 use Rattle.chars.specs.declared.Answer.{Answer}
-use Rattle.tokens.specs.declared.Whole.TheVariants.{Fine}
 use Rattle.tokens.specs.Tokens.{whole_of, counted}
 use Rattle.rows.specs.Rows.{width}
 use Rattle.grammar.specs.Grammar.{Parts}
@@ -44,12 +44,12 @@ table_of s size p = flat (rows_of true s p) ++ replicate (size - width * length 
 pub record Printable (s : List ℕ) (size : ℕ) (x : Answer) (t : List ℕ) : Type 0 where
   pub parts : Parts
   pub reading : Reading true true s parts
-  pub whole : whole_of s ≡ Fine
+  pub whole : whole_of s ≡ (Ok tt)
   pub count : x.count ≡ length (rows_of true s parts)
   pub table : t ≡ table_of s size parts
   pub back : ReadsBack s parts
 
-whole_fine : (tests : Bool) (s : List ℕ) (size : ℕ) {x : Answer} {t : List ℕ} → Permitted tests true s size x t → x.number ≡ 0 → whole_of s ≡ Fine
+whole_fine : (tests : Bool) (s : List ℕ) (size : ℕ) {x : Answer} {t : List ℕ} → Permitted tests true s size x t → x.number ≡ 0 → whole_of s ≡ (Ok tt)
 whole_fine tests s size (early {r = r} e) n = absurd (let h = (whole_number s r e).0 in omega arith)
 whole_fine tests s size (read e h) n = e
 

@@ -1,4 +1,5 @@
 -- What is read with limits set aside is refused for a limit alone.
+use Rattle.std.specs.Prelude.{Ok, Err}
 use mathlib.Core.Path.{◌≡◌, refl, sym, ◌∙◌, ap, subst}
 use mathlib.Core.List.{List, ◌∷◌}
 use mathlib.Core.Bool.{Bool, true, not, cond}
@@ -8,7 +9,6 @@ use native.Mathlib.Omega.{arith}
 use lib.Dec.{T, eqb, T_not}
 use lib.ListN.{length}
 use Rattle.chars.specs.declared.Answer.{Answer}
-use Rattle.tokens.specs.declared.Whole.TheVariants.{Fine, Refused}
 use Rattle.tokens.specs.Tokens.{whole_of}
 use Rattle.grammar.specs.Grammar.{Ask, plain, has_value, opens_bracket, closes_bracket, is_prefix, is_head, is_else_if, same, Look, found, over, Stream, Symbol, phrase, Token, Parts, Language, one_of}
 use Rattle.grammar.specs.Limits.{Counts, zeros, after, inside, kept}
@@ -107,6 +107,6 @@ answered w size v (leaves {r = r} u f) =
     absurd (f (ap (source w).look k.0 ∙ v.whole))
 
 -- So a print that isn't too long.
-pub print_judged : (s : List ℕ) (p : Parts) (size : ℕ) {x : Answer} {t : List ℕ} → ReadsBack s p → whole_of s ≡ Fine → length (print_of s p) ≤ 65535 → Permitted true true (print_of s p) size x t → ((q : Parts) × Reading true true (print_of s p) q) ⊎ (x.number ≡ 9)
-print_judged s p size b f n (early e) = let z : Refused _ ≡ Fine = sym e ∙ b.fine f n in let o : ◌≡◌ {A = ℕ} 0 1 = cc in absurd (omega arith)
+pub print_judged : (s : List ℕ) (p : Parts) (size : ℕ) {x : Answer} {t : List ℕ} → ReadsBack s p → whole_of s ≡ (Ok tt) → length (print_of s p) ≤ 65535 → Permitted true true (print_of s p) size x t → ((q : Parts) × Reading true true (print_of s p) q) ⊎ (x.number ≡ 9)
+print_judged s p size b f n (early e) = let z : Err _ ≡ (Ok tt) = sym e ∙ b.fine f n in let o : ◌≡◌ {A = ℕ} 0 1 = cc in absurd (omega arith)
 print_judged s p size b f n (read e u) = answered (print_of s p) size b.literals_hold u

@@ -1,4 +1,5 @@
 -- What the printer promises is determined, and says what document 02 asks of a print.
+use Rattle.std.specs.Prelude.{Ok}
 use mathlib.Core.Path.{◌≡◌, refl, sym, ap, subst, ◌∙◌}
 use mathlib.Core.List.{List, [], ◌∷◌, ◌++◌}
 use mathlib.Core.Bool.{Bool, true, false, cond}
@@ -9,7 +10,6 @@ use native.Mathlib.Decide.{dec_lt}
 use lib.Dec.{T, eqb, leb, leb→le, le→leb}
 use lib.ListN.{length, take, replicate}
 use Rattle.chars.specs.declared.Answer.{Answer}
-use Rattle.tokens.specs.declared.Whole.TheVariants.{Fine}
 use Rattle.tokens.specs.Tokens.{whole_of, counted}
 use Rattle.rows.specs.Kinds as kinds
 use Rattle.rows.specs.Rows.{width}
@@ -67,7 +67,7 @@ one_judged n w size (fits k r f) (past_limit k' a e) = absurd (not_nine w a e r)
 one_judged n w size (fits k r f) (no_room k' r' f') = absurd (omega arith)
 one_judged n w size (fits k r f) (fits k' r' f') = (refl, refl)
 
-a_judged : (s : List ℕ) (p : Parts) (size : ℕ) → ReadsBack s p → whole_of s ≡ Fine → (x : Answer) × (t : List ℕ) × Judged (length s) (print_of s p) size x t
+a_judged : (s : List ℕ) (p : Parts) (size : ℕ) → ReadsBack s p → whole_of s ≡ (Ok tt) → (x : Answer) × (t : List ℕ) × Judged (length s) (print_of s p) size x t
 a_judged s p size b f = elim (dec_lt 65535 (length w)) [
   | yes h ↦ (_, _, too_long h)
   | no h ↦ short (omega (arith, h))
@@ -173,7 +173,7 @@ module _ (s : List ℕ) (size size' size'' : ℕ) where
     pub parts' : Parts
     pub reads : Reading true true s parts
     pub reads' : Reading true true (print_of s parts) parts'
-    pub whole : whole_of s ≡ Fine
+    pub whole : whole_of s ≡ (Ok tt)
     pub short : length (print_of s parts) ≤ 65535
     pub tests : n ≡ tests_in (rows_of true s parts)
     pub rows : length (rows_of true s parts) ≤ room size
@@ -248,7 +248,7 @@ again_printed s size size' size'' {n = n} {v = v} k = (tbl, subst (λ (m : ℕ).
     same_tests : tests_in (rows_of true w k.parts') ≡ n
     same_tests = sym (tests_bare (rows_of true w k.parts')) ∙ ap tests_in bare ∙ tests_bare (rows_of true s k.parts) ∙ sym k.tests
 
-    fine : whole_of w ≡ Fine
+    fine : whole_of w ≡ (Ok tt)
     fine = b.fine k.whole k.short
 
     a : Permitted true true w size (counted (length w) (length (rows_of true w k.parts')) (room size)) (table_for size (accepted (rows_of true w k.parts')))

@@ -1,6 +1,5 @@
 -- C-20: what is printed of an accepted source is read again, and says the same.
-use Rattle.std.specs.Prelude.{◌≡◌, List, Bool, true, ℕ, ◌≤◌, length}
-use Rattle.tokens.specs.declared.Whole.TheVariants.{Fine}
+use Rattle.std.specs.Prelude.{Ok, ◌≡◌, List, Bool, true, ℕ, ◌≤◌, length}
 use Rattle.tokens.specs.Tokens.{whole_of}
 use Rattle.grammar.specs.Grammar.{Ask, plain, has_value, opens_bracket, closes_bracket, is_prefix, is_head, is_else_if, Token, over, Parts}
 use Rattle.grammar.specs.Limits.{Counts, zeros}
@@ -44,4 +43,4 @@ pub record ReadsBack (s : List ℕ) (p : Parts) : Type 0 where
   pub same_trees : tree_of (print_of s p) (rows_of true (print_of s p) parts) ≡ tree_of s (rows_of true s p)
   pub again : print_of (print_of s p) parts ≡ print_of s p
   pub accepted : {q : Parts} → Reading true true (print_of s p) q → q ≡ parts
-  pub fine : whole_of s ≡ Fine → length (print_of s p) ≤ 65535 → whole_of (print_of s p) ≡ Fine
+  pub fine : whole_of s ≡ (Ok tt) → length (print_of s p) ≤ 65535 → whole_of (print_of s p) ≡ (Ok tt)

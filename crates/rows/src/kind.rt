@@ -1,4 +1,5 @@
 // The kinds of rows, as document 01 numbers them; 46 and 47 are document 02's.
+// kept: numbers and no enum, since rows lie in a lent table of numbers that the C interface hands out, and specs/Kinds.antt names these.
 
 // No row: a token or a part of a phrase.
 pub const NONE: u64 = 0;

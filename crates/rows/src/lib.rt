@@ -10,7 +10,7 @@ pub mod kind;
 pub const WIDTH: usize = 7;
 
 // A row but for its size.
-#[derive(Clone, Copy)]
+#[derive(Clone, Copy, Debug, PartialEq, Eq)]
 pub struct Row {
     pub kind: u64,
     pub start: usize,
@@ -20,6 +20,7 @@ pub struct Row {
     pub detail: u64,
 }
 
+// kept: here and in `put` a place for each number and no array of seven, which would be one more copy of the row in the frames of the readers.
 // Whether row n of a table is this one.
 fn same_at(table: &[u64], n: usize, row: Row, size: u64) -> bool
     ensures { result ≡ same_at table.now n row size }
@@ -75,9 +76,7 @@ pub fn put(table: &mut [u64], n: usize, row: Row, size: u64)
 pub fn clear(table: &mut [u64], from: usize)
     ensures { table.new ≡ zeroed table.old from }
 {
-    let mut i = from;
-    while i < table.len() {
-        table[i] = 0;
-        i += 1;
+    if from <= table.len() {
+        table[from..].fill(0);
     }
 }

@@ -1,4 +1,5 @@
 -- Reading anew from the first byte on gives the same as going on at the next line.
+use Rattle.std.specs.Prelude.{Ok, Err}
 use mathlib.Core.Path.{◌≡◌, refl, sym, ap, subst, ◌∙◌}
 use mathlib.Core.List.{List}
 use mathlib.Core.Bool.{Bool, true, false}
@@ -10,8 +11,7 @@ use native.Mathlib.Omega.{arith}
 use Rattle.chars.specs.declared.Class.TheVariants.{Blank}
 use Rattle.chars.specs.Chars.{byte_at, is_class}
 use Rattle.tokens.specs.declared.Refusal as lexer
-use Rattle.tokens.specs.declared.Step.{Step}
-use Rattle.tokens.specs.declared.Step.TheVariants.{Taken, Refused}
+use Rattle.tokens.specs.Results.{Step}
 use Rattle.tokens.specs.Blanks.{skip_all}
 use Rattle.tokens.specs.Tokens.{step_at}
 use Rattle.grammar.specs.Grammar.{Look}
@@ -43,10 +43,10 @@ small tests s i = by (step_at s i) (step_goes s i)
     after false false r = omega arith
 
     by : (k : Step) → Steps s i k → word_of_lem (source s) (roto tests) (look_of s k) < 100
-    by (Taken w p n) (steps_token h m l v) = omega arith
-    by (Refused r) steps_over = omega arith
-    by (Refused r) (steps_quote c l m) = after (eqb r.number 11) (eqb r.number 5) r
-    by (Refused r) (steps_wrong c) = after (eqb r.number 11) (eqb r.number 5) r
+    by (Ok (w, p, n)) (steps_token h m l v) = omega arith
+    by (Err r) steps_over = omega arith
+    by (Err r) (steps_quote c l m) = after (eqb r.number 11) (eqb r.number 5) r
+    by (Err r) (steps_wrong c) = after (eqb r.number 11) (eqb r.number 5) r
 
 module _ (tests : Bool) where
   -- Whole declarations stand from the first byte on up to a place behind which the same is seen as at i.

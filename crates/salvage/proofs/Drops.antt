@@ -1,4 +1,5 @@
 -- The loop that drops what is broken, and the answer.
+use Rattle.std.specs.Prelude.{Some, None, Ok, Err}
 use mathlib.Core.Path.{◌≡◌, refl, sym, ap, subst, ◌∙◌}
 use mathlib.Core.List.{List, [], ◌∷◌, ◌++◌, append_assoc, append-nil}
 use mathlib.Core.Bool.{true, false, cond}
@@ -15,7 +16,6 @@ use Rattle.chars.specs.declared.Answer.{Answer}
 use Rattle.rows.specs.Rows.{zeroed}
 use Rattle.strings.proofs.Utf8.{sets_append}
 use Rattle.tokens.specs.declared.Refusal as lexer
-use Rattle.tokens.specs.declared.Whole.TheVariants.{Fine, Refused}
 use Rattle.tokens.specs.Tokens.{whole_of, refusal}
 use Rattle.grammar.specs.Refusals.{Refusal}
 use Rattle.grammar.specs.Language.{roto}
@@ -24,7 +24,7 @@ use Rattle.answers.specs.Entries.{Permitted}
 use Rattle.entry.proofs.Stored.{zeroed_all, zeroed_behind}
 use Rattle.keeping.specs.Kept.{Ends}
 use Rattle.keeping.specs.Breaks.{Breaks}
-use Rattle.salvage.specs.declared.Break.{Break}
+use Rattle.salvage.specs.Results.{Break}
 use Rattle.salvage.specs.Salvage.{end_of, blanked, Range, range, Salvage, whole, drops}
 use Rattle.salvage.specs.Rows.{Upto, Through, ReachesIs, Reaches}
 use Rattle.salvage.specs.Answers.{room_for, flat_ranges, Salvages, early, many_rows, many_ranges_lem, accepts}
@@ -111,10 +111,10 @@ search_out first start h = rw (le-ltb first start h) refl
 
 -- how the declarations end
 module _ {s : List ℕ} {i : ℕ} {t : List ℕ} {n c : ℕ} {r : Break} {t' : List ℕ} (b : Reaches s i t n c r t') where
-  pub ended : r ≡ Break.End → Ends (source s) (roto false) i × Through s t' n c
+  pub ended : r ≡ None → Ends (source s) (roto false) i × Through s t' n c
   ended e = subst (ReachesIs s i t' n c) e b.is
 
-  pub broke : {first : ℕ} {why : lexer.Refusal} → r ≡ Break.At first why → (b : Breaks false s i first (plainly why)) × Upto s b.behind t' n c
+  pub broke : {first : ℕ} {why : lexer.Refusal} → r ≡ Some (first, why) → (b : Breaks false s i first (plainly why)) × Upto s b.behind t' n c
   broke e = subst (ReachesIs s i t' n c) e b.is
 
 -- which of the tables is kept
@@ -137,10 +137,10 @@ module _ (s t v : List ℕ) {y : Answer} {m : ℕ} {t' v' : List ℕ} where
       (subst (λ (k : List ℕ). Salvages false s (length t) (length v) x n s' k v') (sym g)
       (subst (λ (k : List ℕ). Salvages false s (length t) (length v) x n s' u k) (sym h) z)))
 
-  pub salvage_early : {r : lexer.Refusal} {a : Answer} → whole_of s ≡ Refused r → (a ≡ refusal r) × (t' ≡ zeroed t 0) → v' ≡ zeroed v 0 → (y ≡ a) × (m ≡ 0) → Salvages false s (length t) (length v) y m s t' v'
+  pub salvage_early : {r : lexer.Refusal} {a : Answer} → whole_of s ≡ Err r → (a ≡ refusal r) × (t' ≡ zeroed t 0) → v' ≡ zeroed v 0 → (y ≡ a) × (m ≡ 0) → Salvages false s (length t) (length v) y m s t' v'
   salvage_early e p q w = said_as (w.0 ∙ p.0) w.1 (p.1 ∙ zeroed_all t) (q ∙ zeroed_all v) (early e)
 
-  module _ {s' v₁ t₁ : List ℕ} {n : ℕ} {x : Answer} (fine : whole_of s ≡ Fine) (d : Left s v s' v₁ n) (p : Permitted false true s' (length t) x t₁) (k : Keeps t₁ v₁ x n y m t' v') (same : length t₁ ≡ length t) where
+  module _ {s' v₁ t₁ : List ℕ} {n : ℕ} {x : Answer} (fine : whole_of s ≡ (Ok tt)) (d : Left s v s' v₁ n) (p : Permitted false true s' (length t) x t₁) (k : Keeps t₁ v₁ x n y m t' v') (same : length t₁ ≡ length t) where
     zero_rows : zeroed t₁ 0 ≡ replicate (length t) 0
     zero_rows = zeroed_all t₁ ∙ ap (λ (l : ℕ). replicate l 0) same
 

@@ -1,4 +1,5 @@
 -- What a source that is fine as a whole is like; and that the text that is left is fine too.
+use Rattle.std.specs.Prelude.{Ok}
 use mathlib.Core.Path.{◌≡◌, refl, ap, ◌∙◌}
 use mathlib.Core.List.{List}
 use mathlib.Core.Bool.{Bool, true, false, cond}
@@ -12,11 +13,10 @@ use Rattle.chars.specs.declared.Class.TheVariants.{Ascii}
 use Rattle.chars.specs.Chars.{byte_at, is_class}
 use Rattle.chars.specs.Runs.{past_run}
 use Rattle.chars.proofs.Runs.{outside, past_more, past_done, along}
-use Rattle.tokens.specs.declared.Whole.{Whole}
-use Rattle.tokens.specs.declared.Whole.TheVariants.{Fine}
+use Rattle.tokens.specs.Results.{Whole}
 use Rattle.tokens.specs.Tokens.{bad, whole_of}
 
-fails : (b : Bool) (n i e : ℕ) (x : Whole) → cond b (bad n i e) x ≡ Fine → (b ≡ false) × (x ≡ Fine)
+fails : (b : Bool) (n i e : ℕ) (x : Whole) → cond b (bad n i e) x ≡ (Ok tt) → (b ≡ false) × (x ≡ (Ok tt))
 fails true n i e x z = let v : ◌≡◌ {A = ℕ} 0 1 = cc in absurd (omega arith)
 fails false n i e x z = (refl, z)
 
@@ -33,7 +33,7 @@ in_run p none s i n = along p none s (λ j. j ≤ n → n < past_run p s j → p
       | no l ↦ (let z : n ≡ j = omega arith in ap (λ (m : ℕ). p (byte_at s m)) z ∙ f)
     ]
 
-module _ (s : List ℕ) (fine : whole_of s ≡ Fine) where
+module _ (s : List ℕ) (fine : whole_of s ≡ (Ok tt)) where
   pub short : length s ≤ 65535
   unfolding whole_of
   short = let f = (fails (ltb 65535 (length s)) 1 65535 65535 _ fine).0 in ltb-false 65535 (length s) f

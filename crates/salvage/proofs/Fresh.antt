@@ -1,5 +1,6 @@
 -- "What is kept must be exactly the declarations as a fresh read gives them": the text that is left has a reading. And every byte is
 -- covered.
+use Rattle.std.specs.Prelude.{Ok}
 use mathlib.Core.Path.{◌≡◌, ap}
 use mathlib.Core.List.{List}
 use mathlib.Core.Bool.{Bool, true, false, cond}
@@ -10,7 +11,6 @@ use native.Mathlib.Omega.{arith}
 use lib.Dec.{leb}
 use lib.ListN.{length}
 use Rattle.chars.specs.declared.Answer.{Answer}
-use Rattle.tokens.specs.declared.Whole.TheVariants.{Fine}
 use Rattle.tokens.specs.Tokens.{whole_of}
 use Rattle.tokens.specs.Blanks.{skip_all}
 use Rattle.grammar.specs.Grammar.{over}
@@ -29,7 +29,7 @@ use Rattle.salvage.proofs.Fine.{short, low}
 use Rattle.salvage.proofs.Left.{left_length, left_or_dropped, left_ends, left_low}
 
 module _ (tests : Bool) where
-  pub is_fresh : {s t : List ℕ} {rs : List Range} → whole_of s ≡ Fine → Salvage tests s 0 rs t → Fresh tests t
+  pub is_fresh : {s t : List ℕ} {rs : List Range} → whole_of s ≡ (Ok tt) → Salvage tests s 0 rs t → Fresh tests t
   is_fresh {s} {t} f u =
       let x = kept_text tests (source t) (left_ends tests u) in
       let n = left_length tests u in

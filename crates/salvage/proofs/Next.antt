@@ -1,4 +1,5 @@
 -- What was read stays when the next range becomes spaces; and a text that was read to its end.
+use Rattle.std.specs.Prelude.{Ok}
 use mathlib.Core.Path.{◌≡◌, refl, sym, ap, subst, ◌∙◌}
 use mathlib.Core.List.{List, ◌++◌}
 use mathlib.Core.Bool.{true, false}
@@ -9,7 +10,6 @@ use lib.Seq.{length-take-le}
 use Rattle.chars.specs.declared.Answer.{Answer}
 use Rattle.chars.specs.declared.Class.TheVariants.{Blank}
 use Rattle.chars.specs.Chars.{byte_at, is_class}
-use Rattle.tokens.specs.declared.Whole.TheVariants.{Fine}
 use Rattle.tokens.specs.Tokens.{whole_of, counted}
 use Rattle.tokens.specs.Blanks.{skip_all}
 use Rattle.rows.specs.Kinds as kinds
@@ -79,7 +79,7 @@ pub treed_few : {s t t' : List ℕ} {n : ℕ} → Treed s t t' n → length s �
 treed_few d h = let a₁ = d.through.upto.few in let a₂ = d.through.upto.inside in omega (arith, a₁, a₂, h)
 
 -- (a)'s answer to the text, and its rows in the lent table
-pub treed_permits : (s t : List ℕ) {n : ℕ} {t' : List ℕ} → whole_of s ≡ Fine → Treed s (rows_part t) t' n → {y : Answer} {u : List ℕ} → (y ≡ counted (length s) (n + 1) (room (length (t' ++ left_over t)))) × (u ≡ kept_rows (t' ++ left_over t) (n + 1)) → Permitted false true s (length t) y u
+pub treed_permits : (s t : List ℕ) {n : ℕ} {t' : List ℕ} → whole_of s ≡ (Ok tt) → Treed s (rows_part t) t' n → {y : Answer} {u : List ℕ} → (y ≡ counted (length s) (n + 1) (room (length (t' ++ left_over t)))) × (u ≡ kept_rows (t' ++ left_over t) (n + 1)) → Permitted false true s (length t) y u
 treed_permits s t {n} {t'} fine d {y} {u} p = subst (λ (k : ℕ). Permitted false true s k y u) size (permits d.through d.put (left_over t) few fine p)
   where
     few : length (left_over t) < width

@@ -1,4 +1,5 @@
 -- The answer of C-23 is determined.
+use Rattle.std.specs.Prelude.{Ok}
 use mathlib.Core.Path.{◌≡◌, refl, sym, ap, subst, ◌∙◌}
 use mathlib.Core.List.{List, [], ◌∷◌, ◌++◌}
 use mathlib.Core.Bool.{Bool, true, false, cond}
@@ -8,7 +9,6 @@ use lib.Dec.{eqb, ltb}
 use lib.ListN.{length, replicate}
 use borrow.Author.Tests.{lt-ltb, le-ltb}
 use Rattle.chars.specs.declared.Answer.{Answer}
-use Rattle.tokens.specs.declared.Whole.TheVariants.{Fine}
 use Rattle.tokens.specs.Tokens.{whole_of, refusal}
 use Rattle.tokens.specs.Blanks.{skip_all}
 use Rattle.grammar.specs.Grammar.{over, Parts}
@@ -127,7 +127,7 @@ module _ (tests : Bool) (s : List ℕ) (size size' : ℕ) where
   none_ten : (n : ℕ) → n ≡ 0 → eqb n 10 ≡ false
   none_ten n e = ap (λ (m : ℕ). eqb m 10) e
 
-  way : {x : Answer} {n : ℕ} {t u v : List ℕ} → Salvages tests s size size' x n t u v → whole_of s ≡ Fine → Way (out x n t u v)
+  way : {x : Answer} {n : ℕ} {t u v : List ℕ} → Salvages tests s size size' x n t u v → whole_of s ≡ (Ok tt) → Way (out x n t u v)
   way (early e) f = let z : ◌≡◌ {A = ℕ} 0 1 = cc in absurd (omega arith)
   way (many_rows {rs = rs} {t = t} {u = u} {x = x} f w p e) g = record { drop = rs; left = t; said_of = x; its_rows = u; salvage = w; reads = p; is_out = rw (ten x.number e) refl }
   way (many_ranges_lem {rs = rs} {t = t} {u = u} {x = x} f w p e h) g = record { drop = rs; left = t; said_of = x; its_rows = u; salvage = w; reads = p; is_out = rw (none_ten x.number e, lt-ltb (room_for size') (length rs) h) refl }

@@ -1,4 +1,5 @@
 -- Declarations are read one by one, up to a break or the end.
+use Rattle.std.specs.Prelude.{Some, None, Ok, Err}
 use mathlib.Core.Path.{◌≡◌, refl, sym, ap, subst, ◌∙◌}
 use mathlib.Core.List.{List, [], ◌∷◌, ◌++◌, append-nil}
 use mathlib.Core.Bool.{false}
@@ -10,9 +11,7 @@ use lib.Dec.{T, eqb, eqb→eq}
 use lib.ListN.{length, take, drop, length-append, length-drop}
 use lib.Seq.{take-length, drop-length}
 use Rattle.tokens.specs.declared.Refusal.{Refusal}
-use Rattle.tokens.specs.declared.Step.{Step}
-use Rattle.tokens.specs.declared.Step.TheVariants.{Taken}
-use Rattle.tokens.specs.declared.Step.TheVariants as step
+use Rattle.tokens.specs.Results.{Step}
 use Rattle.tokens.specs.Blanks.{skip_all}
 use Rattle.tokens.specs.Rules.{refused, token_at}
 use Rattle.tokens.specs.Tokens.{step_at}
@@ -49,8 +48,7 @@ use Rattle.keeping.proofs.Looks.{some_in, token_start, token_none}
 use Rattle.parser.specs.declared.Here.{Here}
 use Rattle.parser.specs.declared.Limits.{Limits}
 use Rattle.parser.specs.declared.Node.{Node}
-use Rattle.parser.specs.declared.Read.{Read}
-use Rattle.parser.specs.declared.Read.TheVariants.{Done, Refused}
+use Rattle.parser.specs.Results.{Read}
 use Rattle.parser.specs.Places.{word_of, start_of, step_start, next_of, here_at, unused, unused_at}
 use Rattle.parser.specs.Counted.{counts}
 use Rattle.parser.specs.Going.{language, Stands, store, Whole, Answers}
@@ -59,7 +57,7 @@ use Rattle.parser.proofs.Going.{whole_of, stopped_of}
 use Rattle.promises.specs.Firsts.{firsts_by}
 use Rattle.promises.specs.Promises.{the}
 use Rattle.promises.proofs.Answered.{further, kept_refused}
-use Rattle.salvage.specs.declared.Break.{Break}
+use Rattle.salvage.specs.Results.{Break}
 use Rattle.salvage.specs.Rows.{part_from, freshly, Declares, more, most_rows, Upto, Through, broken_by, ReachesIs, Reaches}
 use Rattle.salvage.proofs.Rows.{back_length, held_still, held_more}
 
@@ -76,8 +74,8 @@ declares_so s t h n from {l} {r} {part} e q u =
       back = ap (λ (x : List ℕ). take from t ++ (part ++ x)) post ∙ ap (λ (x : List ℕ). take from t ++ x) (append-nil part) ∙ ap (λ (i : ℕ). take i t ++ part) e;
     }
 
-pub broken_is : (h : Here) {r : Read} {e : Refusal} {i : ℕ} → r ≡ Refused e → i ≡ start_of h → Break.At i e ≡ broken_by h r
-broken_is h {e = e} q k = ap (λ (y : ℕ). Break.At y e) k ∙ ap (broken_by h) (sym q)
+pub broken_is : (h : Here) {r : Read} {e : Refusal} {i : ℕ} → r ≡ Err e → i ≡ start_of h → Some (i, e) ≡ broken_by h r
+broken_is h {e = e} q k = ap (λ (y : ℕ). Some (y, e)) k ∙ ap (broken_by h) (sym q)
 
 none_off : T (picks_off (roto false) DECLARATION option.none 100 (firsts_by false))
 unfolding roto picks_off
@@ -112,8 +110,8 @@ module _ (s : List ℕ) where
         ap start_of g.seen ∙ ap step_start (sym (step_inside s i refl k refl)) ∙ by (token_at s (skip_all s i)) refl
       where
         by : (k : Step) → token_at s (skip_all s h.place) ≡ k → step_start k ≡ skip_all s h.place
-        by (Taken w b next) e = token_start (skip_all s h.place) s e
-        by (step.Refused r) e = token_none (skip_all s h.place) s (λ z. let v : skip_all s h.place ≡ r.start = cc in sym v) (λ z. let v : skip_all s h.place ≡ r.start = cc in sym v) e
+        by (Ok (w, b, next)) e = token_start (skip_all s h.place) s e
+        by (Err r) e = token_none (skip_all s h.place) s (λ z. let v : skip_all s h.place ≡ r.start = cc in sym v) (λ z. let v : skip_all s h.place ≡ r.start = cc in sym v) e
 
 -- Declarations were read from `at` on, and the reader stands at h.
 pub record Onward (s : List ℕ) (at : ℕ) (t₀ : List ℕ) (h : Here) (t : List ℕ) (n c : ℕ) : Type 0 where
@@ -162,7 +160,7 @@ module _ {s : List ℕ} {at : ℕ} {t₀ : List ℕ} {h : Here} {t : List ℕ} {
       let picks = off_place (roto false) DECLARATION option.none (source s) 100 (firsts_by false) h.place none_off small (λ z. o (subst (λ (y : ℕ). T (one_of y (firsts_by false))) (peeks w) z)) in
       (record { behind = h.place; kept = v.kept; more = not_over w k; begins = starts s h w k; place = h.place; why = amiss DECLARATION; stops = stops_none picks; says = ap (λ (y : Refusal). record { number = y.number; start = y.start; end = y.end }) (sym q) ∙ sym (says w (amiss DECLARATION) (λ len y. refl, λ len y. refl)) }, v.upto)
 
-  pub reaches_end : word_of h ≡ 0 → Reaches s at t₀ n c Break.End t
+  pub reaches_end : word_of h ≡ 0 → Reaches s at t₀ n c None t
   reaches_end e = record { is = to_end e; long = v.long }
 
   pub reaches_other : (T (one_of (word_of h) (firsts_by false)) → ⊥) → word_of h ≢ 0 → {r : Read} {b : Break} → r ≡ unused h → b ≡ broken_by h r → Reaches s at t₀ n c b t
@@ -170,7 +168,7 @@ module _ {s : List ℕ} {at : ℕ} {t₀ : List ℕ} {h : Here} {t : List ℕ} {
 
   module _ (o : T (one_of (word_of h) (firsts_by false))) {r : Read} {t' : List ℕ} (d : Declares s h t n r t') where
     -- one that is refused: the rows before it stay
-    pub at_broken : {e : Refusal} → r ≡ Refused e → ((b : Breaks false s at (start_of h) (record { number = e.number; start = e.start; end = e.end })) × Upto s b.behind t' n c) × (length t' ≡ length t₀)
+    pub at_broken : {e : Refusal} → r ≡ Err e → ((b : Breaks false s at (start_of h) (record { number = e.number; start = e.start; end = e.end })) × Upto s b.behind t' n c) × (length t' ≡ length t₀)
     at_broken q =
         let w = stopped_of d.read q in
         let k : word_of h ≢ 0 = λ z. subst (λ (y : ℕ). T (one_of y (firsts_by false))) z o in
@@ -186,11 +184,11 @@ module _ {s : List ℕ} {at : ℕ} {t₀ : List ℕ} {h : Here} {t : List ℕ} {
           e ∙ v.long,
         )
 
-    pub reaches_broken : {e : Refusal} → r ≡ Refused e → {b : Break} → b ≡ broken_by h r → Reaches s at t₀ n c b t'
+    pub reaches_broken : {e : Refusal} → r ≡ Err e → {b : Break} → b ≡ broken_by h r → Reaches s at t₀ n c b t'
     reaches_broken q e = let y = at_broken q in record { is = subst (ReachesIs s at t' n c) (sym (e ∙ ap (broken_by h) q)) y.0; long = y.1 }
 
     -- one that is read
-    module _ {m : Node} {z : Here} (q : r ≡ Done m z) where
+    module _ {m : Node} {z : Here} (q : r ≡ Ok (m, z)) where
       w : Whole (the s zeros DECLARATION h (drop (part_from (length t) n) t)) 1 m z d.part
       w = whole_of d.read q
 

@@ -1,4 +1,5 @@
 -- Every source has an answer of C-23.
+use Rattle.std.specs.Prelude.{Ok, Err}
 use mathlib.Core.Path.{◌≡◌, refl, sym, ◌∙◌}
 use mathlib.Core.List.{List, [], ◌∷◌}
 use mathlib.Core.Bool.{Bool, true}
@@ -8,8 +9,7 @@ use native.Mathlib.Decide.{dec_lt}
 use native.Mathlib.Omega.{arith}
 use lib.ListN.{length}
 use Rattle.chars.specs.declared.Answer.{Answer}
-use Rattle.tokens.specs.declared.Whole.{Whole}
-use Rattle.tokens.specs.declared.Whole.TheVariants.{Fine, Refused}
+use Rattle.tokens.specs.Results.{Whole}
 use Rattle.tokens.specs.Tokens.{whole_of}
 use Rattle.tokens.specs.Blanks.{skip_all}
 use Rattle.grammar.specs.Grammar.{Look, found, over, wrong, Parts}
@@ -89,8 +89,8 @@ module _ (tests : Bool) where
   a_salvage s size size' = by (whole_of s) refl
     where
       by : (w : Whole) → whole_of s ≡ w → Some s size size'
-      by (Refused r) e = (_, _, _, _, _, early e)
-      by Fine e =
+      by (Err r) e = (_, _, _, _, _, early e)
+      by (Ok tt) e =
           let k = salvaging (length s + 1) s 0 (omega arith) in
           let p = a_permitted tests true k.1 size in
           elim (fresh_answer tests (is_fresh tests e k.2) p.2) [

@@ -1,10 +1,12 @@
--- Spaces stored one behind the other, and ranges.
+-- Spaces in a source, and ranges.
 use mathlib.Core.Path.{◌≡◌, refl, sym, ap, ◌∙◌}
 use mathlib.Core.List.{List, [], ◌∷◌, ◌++◌, append_assoc}
 use mathlib.Core.Bool.{Bool, true, false, cond}
 use Prim.Native.Nat.{ℕ, zero, suc, ◌+◌, ◌-◌, ◌*◌, ◌/◌, ◌≤◌, ◌<◌}
 use native.Mathlib.Omega.{arith}
-use lib.ListN.{length, set, take, drop, replicate, length-replicate}
+use lib.ListN.{length, set, take, drop, replicate, length-take, length-drop}
+use Rattle.std.proofs.lemmas.List.{drop-drop}
+use borrow.Rule.Slice.PartMut.{put_mid, post_of}
 use lib.Seq.{sets, sets-eq, length-sets}
 use lib.Dec.{ltb}
 use borrow.Author.Tests.{lt-ltb, le-ltb}
@@ -12,29 +14,14 @@ use Rattle.tokens.specs.declared.Refusal.{Refusal}
 use Rattle.salvage.specs.Salvage.{space, blanked}
 use Rattle.salvage.specs.Steps.{range_numbers, noted}
 
-pub no_space : (s : List ℕ) (from : ℕ) → s ≡ sets s from (replicate (from - from) space)
-no_space s from = let e : 0 ≡ from - from = omega arith in ap (λ (n : ℕ). sets s from (replicate n space)) e
-
-one_space : (k : ℕ) (s : List ℕ) (from : ℕ) {i : ℕ} → from + k ≡ i → set (sets s from (replicate k space)) i space ≡ sets s from (replicate (suc k) space)
-one_space zero s from {i} e = let q : i ≡ from = omega (arith, e) in ap (λ (n : ℕ). set s n space) q
-one_space (suc k) s from e = one_space k (set s from space) (suc from) (omega (arith, e))
-
-pub space_more : (s t : List ℕ) (from i : ℕ) → from ≤ i → t ≡ sets s from (replicate (i - from) space) → set t i space ≡ sets s from (replicate (i + 1 - from) space)
-space_more s t from i h e =
-    let q : suc (i - from) ≡ i + 1 - from = omega arith in
-    ap (λ (l : List ℕ). set l i space) e ∙ one_space (i - from) s from (omega arith) ∙ ap (λ (n : ℕ). sets s from (replicate n space)) q
-
-pub spaces : (s t : List ℕ) (from to i : ℕ) → from ≤ to → to ≤ length s → i ≤ to → to ≤ i → t ≡ sets s from (replicate (i - from) space) → t ≡ blanked s from to
+-- what is left of a source whose part between two places was filled
+pub spaced : (s : List ℕ) (from to : ℕ) {ys : List ℕ} → from ≤ to → to ≤ length s → ys ≡ replicate (length (take (to - from) (drop from s))) space → put_mid from (to - from) s ys ≡ blanked s from to
 unfolding blanked
-spaces s t from to i h k l m e =
-    let q : i ≡ to = omega arith in
-    let z = length-replicate (to - from) space in
-    let w : from + length (replicate (to - from) space) ≡ to = omega arith in
-    e
-    ∙ ap (λ (n : ℕ). sets s from (replicate (n - from) space)) q
-    ∙ sets-eq (replicate (to - from) space) s from (omega arith)
-    ∙ ap (λ (n : ℕ). take from s ++ replicate (to - from) space ++ drop n s) w
-    ∙ append_assoc (take from s) (replicate (to - from) space) (drop to s)
+spaced s from to {ys} h k e =
+    let n : ℕ = to - from in
+    let long : length (take n (drop from s)) ≡ n = simp (length-take, length-drop) (omega (arith, h, k)) in
+    let behind : post_of from n s ≡ drop to s = drop-drop n from s ∙ ap (λ (m : ℕ). drop m s) {x = from + n} {y = to} (omega (arith, h)) in
+    ap (λ (l : List ℕ). take from s ++ (ys ++ l)) behind ∙ ap (λ (l : List ℕ). take from s ++ (l ++ drop to s)) (e ∙ ap (λ (m : ℕ). replicate m space) long)
 
 -- a range in its place, or no room for it
 five_stored : (t : List ℕ) (i a b c d e : ℕ) → set (set (set (set (set t i a) (i + 1) b) (i + 2) c) (i + 3) d) (i + 4) e ≡ sets t i (a ∷ b ∷ c ∷ d ∷ e ∷ [])

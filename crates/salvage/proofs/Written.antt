@@ -1,4 +1,5 @@
 -- Declarations that were read one by one, from the first byte of a text on: they stay where bytes behind them become spaces, and at the end they are the text's tree.
+use Rattle.std.specs.Prelude.{Ok}
 use mathlib.Core.Path.{◌≡◌, refl, sym, ap, subst, ◌∙◌}
 use mathlib.Core.List.{List, [], ◌∷◌, ◌++◌, append_assoc}
 use mathlib.Core.Bool.{Bool, true, false, cond}
@@ -8,7 +9,6 @@ use lib.Dec.{T, leb, leb→le}
 use lib.ListN.{length, replicate, length-append}
 use Rattle.chars.specs.declared.Answer.{Answer}
 use Rattle.chars.specs.Chars.{byte_at}
-use Rattle.tokens.specs.declared.Whole.TheVariants.{Fine}
 use Rattle.tokens.specs.Tokens.{step_at, whole_of, counted}
 use Rattle.rows.specs.Kinds as kinds
 use Rattle.rows.specs.Rows.{width, put_row, zeroed}
@@ -142,7 +142,7 @@ module _ {s t : List ℕ} {n c : ℕ} (x : Through s t n c) {t' : List ℕ} (put
   same_look = ap (look_of s) (let e : step_at s x.upto.stop ≡ step_at s x.place = rw x.upto.skips refl in e) ∙ x.ends
 
   -- what (a) says of the text, with what is left over of the lent table behind the rows
-  pub permits : (tail : List ℕ) → length tail < width → whole_of s ≡ Fine → {y : Answer} {u : List ℕ} → (y ≡ counted (length s) (n + 1) (room (length (t' ++ tail)))) × (u ≡ kept_rows (t' ++ tail) (n + 1)) → Permitted false true s (length (t' ++ tail)) y u
+  pub permits : (tail : List ℕ) → length tail < width → whole_of s ≡ (Ok tt) → {y : Answer} {u : List ℕ} → (y ≡ counted (length s) (n + 1) (room (length (t' ++ tail)))) × (u ≡ kept_rows (t' ++ tail) (n + 1)) → Permitted false true s (length (t' ++ tail)) y u
   unfolding all b
   permits tail short fine {y} {u} (e, f) =
       let v = tree_of x.upto.written same_look in

@@ -1,3 +1,4 @@
+pub mod Results
 pub mod Salvage
 pub mod Answers
 pub mod Theorems

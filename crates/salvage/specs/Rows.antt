@@ -1,5 +1,5 @@
 -- The rows of what is kept, as its declarations are read one by one. Not to be believed: only the proofs of the code stand on it.
-use Rattle.std.specs.Prelude.{◌≡◌, List, [], ◌∷◌, ◌++◌, false, cond, ℕ, ◌+◌, ◌*◌, ◌/◌, ◌≤◌, leb, length, take, drop}
+use Rattle.std.specs.Prelude.{Some, None, Ok, Err, ◌≡◌, List, [], ◌∷◌, ◌++◌, false, cond, ℕ, ◌+◌, ◌*◌, ◌/◌, ◌≤◌, leb, length, take, drop}
 use Rattle.rows.specs.Kinds as kinds
 use Rattle.rows.specs.Rows.{width, put_row}
 use Rattle.tokens.specs.Blanks.{skip_all}
@@ -14,12 +14,11 @@ use Rattle.answers.specs.Source.{source}
 use Rattle.parser.specs.declared.Here.{Here}
 use Rattle.keeping.specs.Kept.{Ends}
 use Rattle.keeping.specs.Breaks.{Breaks}
-use Rattle.parser.specs.declared.Read.{Read}
-use Rattle.parser.specs.declared.Read.TheVariants.{Done, Refused}
+use Rattle.parser.specs.Results.{Read}
 use Rattle.parser.specs.Places.{start_of, plain_row}
 use Rattle.parser.specs.Going.{Answers}
 use Rattle.promises.specs.Promises.{the}
-use Rattle.salvage.specs.declared.Break.{Break}
+use Rattle.salvage.specs.Results.{Break}
 
 -- where a table of so many numbers goes on behind n rows: at its end, where it has no room for them
 abbrev pub part_from : ℕ → ℕ → ℕ
@@ -73,13 +72,13 @@ pub record Treed (s t t' : List ℕ) (n : ℕ) : Type 0 where
   pub put : t' ≡ put_row table n (plain_row kinds.TREE 0 (length s) children) (n + 1)
 
 abbrev pub broken_by : Here → Read → Break
-broken_by h (Done m z) = Break.End
-broken_by h (Refused r) = Break.At (start_of h) r
+broken_by h (Ok (m, z)) = None
+broken_by h (Err r) = Some (start_of h, r)
 
 -- how the declarations from a place on end, and what is written for all of them
 abbrev pub ReachesIs : List ℕ → ℕ → List ℕ → ℕ → ℕ → Break → Type 0
-ReachesIs s i t n c Break.End = Ends (source s) (roto false) i × Through s t n c
-ReachesIs s i t n c (Break.At first r) = (b : Breaks false s i first (record { number = r.number; start = r.start; end = r.end })) × Upto s b.behind t n c
+ReachesIs s i t n c None = Ends (source s) (roto false) i × Through s t n c
+ReachesIs s i t n c (Some (first, r)) = (b : Breaks false s i first (record { number = r.number; start = r.start; end = r.end })) × Upto s b.behind t n c
 
 pub record Reaches (s : List ℕ) (i : ℕ) (t : List ℕ) (n c : ℕ) (e : Break) (t' : List ℕ) : Type 0 where
   pub is : ReachesIs s i t' n c e

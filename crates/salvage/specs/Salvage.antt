@@ -2,10 +2,9 @@
 -- has begun, to just before the next line, starting at or after the refusal's place and after that first byte, that begins, at column 0, with
 -- the whole word `const`, `fn`, `filter`, `filtermap` or `import`, or to the end, and go on. List each dropped range with its refusal."
 -- `tests`: whether `test` is a declaration.
-use Rattle.std.specs.Prelude.{◌≡◌, List, [], ◌∷◌, ◌++◌, Bool, true, false, ◌&&◌, ◌||◌, cond, ℕ, zero, suc, ◌+◌, ◌-◌, eqb, ltb, length, take, drop, replicate}
+use Rattle.std.specs.Prelude.{Some, None, ◌≡◌, List, [], ◌∷◌, ◌++◌, Bool, true, false, ◌&&◌, ◌||◌, cond, ℕ, zero, suc, ◌+◌, ◌-◌, eqb, ltb, length, take, drop, replicate}
 use Rattle.chars.specs.Chars.{byte_at}
-use Rattle.tokens.specs.declared.Fit.{Fit}
-use Rattle.tokens.specs.declared.Fit.TheVariants.{To, No}
+use Rattle.tokens.specs.Results.{Fit}
 use Rattle.tokens.specs.Rules.{name_at}
 use Rattle.grammar.specs.Words.{'const', 'fn', 'import', filter_words}
 use Rattle.grammar.specs.Grammar.{one_of}
@@ -20,8 +19,8 @@ abbrev pub line_words : List ℕ
 line_words = 'const' ∷ 'fn' ∷ 'import' ∷ filter_words
 
 abbrev pub is_line_word : Fit → Bool
-is_line_word (To e w) = one_of w line_words
-is_line_word No = false
+is_line_word (Some (e, w)) = one_of w line_words
+is_line_word None = false
 
 -- "at column 0": at the start, or behind byte 10
 abbrev pub at_column : List ℕ → ℕ → Bool

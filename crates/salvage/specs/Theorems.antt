@@ -1,8 +1,7 @@
 -- What the theorems of C-23 say.
-use Rattle.std.specs.Prelude.{◌≡◌, List, [], ◌∷◌, Bool, true, ◌⊎◌, ℕ, ◌≤◌, ◌<◌, length}
+use Rattle.std.specs.Prelude.{Ok, ◌≡◌, List, [], ◌∷◌, Bool, true, ◌⊎◌, ℕ, ◌≤◌, ◌<◌, length}
 use Rattle.chars.specs.declared.Answer.{Answer}
 use Rattle.chars.specs.Chars.{byte_at}
-use Rattle.tokens.specs.declared.Whole.TheVariants.{Fine}
 use Rattle.tokens.specs.Tokens.{whole_of}
 use Rattle.tokens.specs.Blanks.{skip_all}
 use Rattle.grammar.specs.Grammar.{Parts}
@@ -25,12 +24,12 @@ pub record OneSalvage (tests : Bool) (s : List ℕ) (size size' : ℕ) : Type 0 
 -- "What is kept must be exactly the declarations as a fresh read gives them when the dropped bytes are replaced by spaces": the text that is
 -- left has a reading, so a fresh read of it accepts it.
 pub record Fresh (tests : Bool) (t : List ℕ) : Type 0 where
-  pub fine : whole_of t ≡ Fine
+  pub fine : whole_of t ≡ (Ok tt)
   pub parts : Parts
   pub reading : demands.Reading tests true t parts
 
 pub record AlwaysFresh (tests : Bool) (s : List ℕ) : Type 0 where
-  pub fresh : {rs : List Range} {t : List ℕ} → whole_of s ≡ Fine → Salvage tests s 0 rs t → Fresh tests t
+  pub fresh : {rs : List Range} {t : List ℕ} → whole_of s ≡ (Ok tt) → Salvage tests s 0 rs t → Fresh tests t
 
 -- Reading anew from the first byte on after each drop gives the same: each range's refusal is (a)'s answer to the text with the ranges before
 -- it as spaces.

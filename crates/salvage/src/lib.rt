@@ -18,7 +18,7 @@ use entry::{counted, refused};
 use parser::{Here, Limits, Read, look, plain_row, unusable};
 use reader::declarations::declaration;
 use rows::kind;
-use tokens::{Cursor, Refusal, Step, Whole, word};
+use tokens::{Cursor, Refusal, word};
 use words::begins_declaration;
 
 // The numbers of a range: its first byte and its end, and its refusal's number and place.
@@ -31,7 +31,7 @@ const UNDERSCORE: u16 = 95;
 const SPACE: u8 = 32;
 
 // The answer: number, place, how many rows, and how many ranges.
-#[derive(Clone, Copy)]
+#[derive(Clone, Copy, Debug, PartialEq, Eq)]
 pub struct Salvaged {
     pub number: u64,
     pub start: usize,
@@ -81,12 +81,10 @@ fn line_at(s: &[u8], at: usize) -> bool
 fn next_line(s: &[u8], from: usize) -> usize
     ensures { result ≡ next_line s.now from }
 {
-    let mut i = from;
-    while i < s.len() {
+    for i in from..s.len() {
         if line_at(s, i) {
             return i;
         }
-        i += 1;
     }
     s.len()
 }
@@ -96,11 +94,7 @@ fn blank(s: &mut [u8], from: usize, to: usize)
     requires { (from ≤ to) × (to ≤ length s.old) }
     ensures { s.new ≡ blanked s.old from to }
 {
-    let mut i = from;
-    while i < to {
-        s[i] = SPACE;
-        i += 1;
-    }
+    s[from..to].fill(SPACE);
 }
 
 // Range n, where there is room for it.
@@ -159,38 +153,31 @@ fn afresh(here: Here) -> Here
     }
 }
 
-// Declarations stand up to the end; or up to what is none, which starts at a byte, with the refusal that is met in it.
-#[derive(Clone, Copy)]
-pub enum Break {
-    End,
-    At(usize, Refusal),
-}
-
 fn start_of(here: Here) -> usize
     ensures { result ≡ start_of here }
 {
-    let step = here.step;
-    match step {
-        Step::Taken(_, start, _) => start,
-        Step::Refused(why) => why.start,
+    match here.step {
+        Ok((_, start, _)) => start,
+        Err(why) => why.start,
     }
 }
 
-fn broken_by(here: Here, read: Read) -> Break
+// Where what is read here begins, and why it is none, if it is refused.
+fn broken_by(here: Here, read: Read) -> Option<(usize, Refusal)>
     ensures { result ≡ broken_by here read }
 {
-    match read {
-        Read::Done(_, _) => Break::End,
-        Read::Refused(why) => Break::At(start_of(here), why),
-    }
+    let Err(why) = read else {
+        return None;
+    };
+    Some((start_of(here), why))
 }
 
-// How many rows and declarations are kept, and how the declarations end.
-#[derive(Clone, Copy)]
+// How many rows and declarations are kept, and from which byte on there is none, with the refusal that is met in it.
+#[derive(Clone, Copy, Debug, PartialEq, Eq)]
 struct Reached {
     rows: usize,
     children: u64,
-    end: Break,
+    end: Option<(usize, Refusal)>,
 }
 
 // Declarations from a place on, behind so many rows of so many others.
@@ -203,7 +190,7 @@ fn read_on(s: &[u8], table: &mut [u64], at: usize, before: usize, others: u64) -
     let mut children = others;
     while begins_declaration(here.word(), false) {
         let r = declare(s, table, here, rows);
-        let Read::Done(_, next) = r else {
+        let Ok((_, next)) = r else {
             return Reached {
                 rows,
                 children,
@@ -224,12 +211,12 @@ fn read_on(s: &[u8], table: &mut [u64], at: usize, before: usize, others: u64) -
     Reached {
         rows,
         children,
-        end: Break::End,
+        end: None,
     }
 }
 
 // How many rows and declarations are kept, and how many ranges are dropped.
-#[derive(Clone, Copy)]
+#[derive(Clone, Copy, Debug, PartialEq, Eq)]
 struct Totals {
     rows: usize,
     children: u64,
@@ -249,8 +236,7 @@ fn drop_broken(s: &mut [u8], table: &mut [u64], ranges: &mut [u64]) -> Totals
         let r = read_on(s, table, at, rows, children);
         rows = r.rows;
         children = r.children;
-        let end = r.end;
-        let Break::At(first, why) = end else {
+        let Some((first, why)) = r.end else {
             return Totals {
                 rows,
                 children,
@@ -317,11 +303,11 @@ pub fn salvage(s: &mut [u8], table: &mut [u64], ranges: &mut [u64]) -> Salvaged
     ensures { Salvages false s.old (length table.old) (length ranges.old) (answer_of result) result.ranges s.new table.new ranges.new }
 {
     match tokens::check_source(s) {
-        Whole::Refused(why) => {
+        Err(why) => {
             rows::clear(ranges, 0);
             with_ranges(refused(table, why), 0)
         }
-        Whole::Fine => {
+        Ok(()) => {
             let whole = table.len() / rows::WIDTH * rows::WIDTH;
             let all = read_kept(s, &mut table[..whole], ranges);
             let read = counted(table, s.len(), all.rows + 1);

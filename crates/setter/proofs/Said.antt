@@ -5,7 +5,7 @@ use mathlib.Core.Bool.{Bool, true, false, cond}
 use mathlib.Core.Logic.{◌⊎◌, inl, inr, ◌≢◌}
 use Prim.Native.Nat.{ℕ, zero, suc, ◌+◌, ◌-◌, ◌*◌, ◌/◌, ◌≤◌, ◌<◌}
 use native.Mathlib.Omega.{arith}
-use lib.Dec.{T, eqb, ltb, leb, le→leb}
+use lib.Dec.{eqb, ltb, leb, le→leb}
 use lib.ListN.{length, get_or, take, replicate, length-append}
 use lib.Seq.{get_or-append-add}
 use borrow.Author.Tests.{ltb-false, eq-eqb, ne_eqb}

@@ -1,24 +1,14 @@
 -- Trees in a table, and entries of the stack.
 use mathlib.Core.Path.{◌≡◌, refl, sym, ap, ◌∙◌, subst}
-use mathlib.Core.List.{List, [], ◌∷◌, ◌++◌, append_assoc, append-nil}
-use mathlib.Core.Bool.{Bool, true, false, not, cond}
-use mathlib.Core.Logic.{◌≢◌}
+use mathlib.Core.List.{List, [], ◌++◌, append_assoc, append-nil}
 use Prim.Native.Nat.{ℕ, zero, suc, ◌+◌, ◌-◌, ◌*◌, ◌≤◌, ◌<◌}
-use lib.Dec.{eqb, ltb}
 use lib.ListN.{length, get_or, set, length-set}
-use lib.Seq.{get_or-set_same, get_or-set_other}
+use lib.Seq.{get_or-set_other}
 use native.Mathlib.Omega.{arith}
-use Rattle.grammar.specs.Rows.{Row}
-use Rattle.canon.specs.Trees.{Label, Forest, none, tree, label}
-use Rattle.canon.specs.Layout as canon
-use Rattle.canon.specs.Text.{Bit, signs, inner}
-use Rattle.canon.specs.Events.{closing}
+use Rattle.canon.specs.Trees.{Forest, none, tree}
+use Rattle.canon.specs.Text.{Bit}
 use Rattle.forests.specs.Told.{trees, count}
-use Rattle.sink.specs.Told.{said}
-use Rattle.places.specs.Under.{under}
-use Rattle.layouts.specs.Phases.{before, next, behind, one, going}
-use Rattle.layouts.specs.Packed.{place_in}
-use Rattle.setter.specs.Waiting.{row_at, Over, Sits, back, Backs, Waits, Held, weigh, load, Kept, Rooted, PlacedUnder, Opened}
+use Rattle.setter.specs.Waiting.{row_at, Sits, back, Backs, Waits, Held, weigh, load, Kept}
 
 -- ---- trees in a table
 

@@ -4,14 +4,16 @@ use mathlib.Core.List.{List, [], ◌∷◌, ◌++◌, append_assoc, append-nil}
 use mathlib.Core.Bool.{Bool, true, false, not, cond}
 use mathlib.Core.Logic.{◌⊎◌, inl, inr}
 use Prim.Native.Nat.{ℕ, zero, suc, ◌+◌, ◌-◌, ◌*◌, ◌≤◌, ◌<◌}
-use lib.Dec.{T, eqb, ltb, le→leb, leb→le}
+use lib.Dec.{eqb, ltb, le→leb}
 use lib.ListN.{length, get_or, set, length-set}
+use Rattle.std.proofs.Common.{min}
 use lib.Seq.{get_or-set_same, get_or-set_other, slice}
 use native.Mathlib.Omega.{arith}
 use borrow.Author.Tests.{ne_eqb}
 use Rattle.rows.specs.Kinds as kinds
 use Rattle.grammar.specs.Grammar.{one_of}
-use Rattle.grammar.proofs.Bools.{T→eq, F→eq}
+use Rattle.grammar.specs.Rows.{Row}
+use Rattle.grammar.proofs.Bools.{T→eq}
 use Rattle.canon.specs.Trees.{Label, Forest, none, tree, label, copied}
 use Rattle.canon.specs.Layout as canon
 use Rattle.canon.specs.Text.{Bit, copy, signs, paired, inner, fill, tokens}
@@ -20,14 +22,11 @@ use Rattle.forests.specs.Told.{trees, count}
 use Rattle.sink.specs.declared.Sink.{Sink}
 use Rattle.sink.specs.Told.{Told, empty, state, tell, telling, said}
 use Rattle.sink.proofs.Feeds.{telling_append}
-use Rattle.places.specs.declared.Place.{Place}
-use Rattle.places.specs.Meant.{meant, mark}
 use Rattle.places.specs.Under.{under}
 use Rattle.layouts.specs.Phases.{before, next, behind, one, going}
 use Rattle.layouts.specs.Packed.{place_in}
 use Rattle.layouts.proofs.Phased.{phased}
 use Rattle.setter.specs.Waiting.{row_at, Over, Sits, Planted, back, Backs, Waits, Held, load, Kept, Rooted, PlacedUnder, Opened, ClosedBy, text_at, Turned}
-use Rattle.setter.specs.declared.Turn.{Turn}
 use Rattle.setter.proofs.Stack.{trees_few, sits_backs, sits_back, back_more, backs_first, backs_room, held_kept, held_below, held_on, held_load, Top, top_of, kept_all, kept_set, kept_on}
 
 -- ---- the roots of the children
@@ -69,6 +68,10 @@ pushes_more t p₀ m c n p i k (a, b, e, (suc j, h, d)) l r = (
     go q (inr g) = ap (λ (x : ℕ). get_or (set p ((m + i) * 2) k) ((m + x) * 2) 0) g ∙ get_or-set_same p ((m + i) * 2) k 0 (omega (arith, long)) ∙ e ∙ ap (back t c) (sym g)
     go q (inl g) = get_or-set_other p ((m + i) * 2) ((m + q) * 2) k 0 (λ (x : (m + q) * 2 ≡ (m + i) * 2). absurd (omega (arith, g, x))) ∙ b q g
 
+-- the same with the row as it was read
+pub pushes_row : (t p₀ : List ℕ) (m c n : ℕ) (p : List ℕ) (i k : ℕ) (r : Row) → r ≡ row_at t (k - 1) → Pushing t p₀ m c n p i k → i < n → (m + n) * 2 ≤ length p₀ → Pushing t p₀ m c n (set p ((m + i) * 2) k) (i + 1) (k - r.size)
+pushes_row t p₀ m c n p i k r e g l h = subst (λ (w : Row). Pushing t p₀ m c n (set p ((m + i) * 2) k) (i + 1) (k - w.size)) (sym e) (pushes_more t p₀ m c n p i k g l h)
+
 pub pushes_end : (t p₀ : List ℕ) (m c n : ℕ) (p : List ℕ) (i k : ℕ) → Pushing t p₀ m c n p i k → n ≤ i → Kept p₀ p m × Rooted t c n p m
 pushes_end t p₀ m c n p i k (a, b, e, d) l = (a, λ q u. b q (omega arith))
 
@@ -102,10 +105,10 @@ places_room t p₀ m j n c p z l q (a, b, d, g) k h =
     let x1 = x.1 in
     (omega (arith, e, x0), omega (arith, e, x1), a.long)
 
-some_more : (ts : Forest) → ltb 1 (suc (trees ts)) ≡ not (canon.empty ts)
+some_more : (ts : Forest) → ltb 0 (trees ts) ≡ not (canon.empty ts)
 unfolding trees
 some_more none = refl
-some_more (tree a kids ts) = T→eq _ (le→leb 2 (suc (suc (trees ts))) (omega arith))
+some_more (tree a kids ts) = T→eq _ (le→leb 1 (suc (trees ts)) (omega arith))
 
 module _ (s t : List ℕ) (m j n : ℕ) (c : canon.Place) (kids : Forest) (p : List ℕ) (z l q x child : ℕ) where
   abbrev K0 : ℕ
@@ -117,7 +120,7 @@ module _ (s t : List ℕ) (m j n : ℕ) (c : canon.Place) (kids : Forest) (p : L
   abbrev D0 : ℕ
   D0 = get_or t (j * 7 + 5) 0
 
-  far_at : (f : Forest) (at : ℕ) (bits : List Bit) (w : ℕ) → Sits s t f at → at + count f ≡ j → trees f ≡ l → Held s t p (m + l) (n - l) bits w → w + 2 * count f ≡ 2 * count kids → bits ++ going c (label s (row_at t j)) z f ≡ going c (label s (row_at t j)) 0 kids → l ≡ suc q → l ≤ n → (m + n) * 2 ≤ length p → Rooted t j n p m → child ≡ get_or t ((get_or p ((m + q) * 2) 0 - 1) * 7) 0 → place_in x ≡ under K0 V0 D0 c z child (ltb 1 l) → said x ≡ signs (before K0 V0 D0 z child) → Far s t m j n c kids (set p ((m + q) * 2 + 1) x) (next K0 V0 z child) q
+  far_at : (f : Forest) (at : ℕ) (bits : List Bit) (w : ℕ) → Sits s t f at → at + count f ≡ j → trees f ≡ l → Held s t p (m + l) (n - l) bits w → w + 2 * count f ≡ 2 * count kids → bits ++ going c (label s (row_at t j)) z f ≡ going c (label s (row_at t j)) 0 kids → l ≡ suc q → l ≤ n → (m + n) * 2 ≤ length p → Rooted t j n p m → child ≡ get_or t ((get_or p ((m + q) * 2) 0 - 1) * 7) 0 → place_in x ≡ under K0 V0 D0 c z child (ltb 0 q) → said x ≡ signs (before K0 V0 D0 z child) → Far s t m j n c kids (set p ((m + q) * 2 + 1) x) (next K0 V0 z child) q
   unfolding Sits trees count going back Waits
   far_at none at bits w h e k d y g lq ln long roots ch px sx = absurd (omega (arith, k, lq))
   far_at (tree b kb ts) at bits w (hk, lb, o, ht) e k d y g lq ln long roots ch px sx =
@@ -129,7 +132,7 @@ module _ (s t : List ℕ) (m j n : ℕ) (c : canon.Place) (kids : Forest) (p : L
       let root : get_or p ((m + q) * 2) 0 ≡ at + suc (count kb) = roots q (omega (arith, lq, ln)) ∙ (λ i. back t (e1 i) (q1 i)) ∙ behind_it in
       let root1 : get_or p ((m + q) * 2) 0 - 1 ≡ r = omega (arith, root) in
       let kind : child ≡ b.kind = ch ∙ ap (λ (a : ℕ). get_or t (a * 7) 0) root1 ∙ ap (λ (a : Label). a.kind) lb in
-      let more : ltb 1 l ≡ not (canon.empty ts) = ap (λ (a : ℕ). ltb 1 a) (sym k) ∙ some_more ts in
+      let more : ltb 0 q ≡ not (canon.empty ts) = ap (λ (a : ℕ). ltb 0 a) {x = q} {y = trees ts} (omega (arith, k, lq)) ∙ some_more ts in
       let place : place_in x ≡ under K0 V0 D0 c z b.kind (not (canon.empty ts)) = px ∙ (λ i. under K0 V0 D0 c z (kind i) (more i)) in
       let words : said x ≡ signs (before K0 V0 D0 z b.kind) = sx ∙ ap (λ (a : ℕ). signs (before K0 V0 D0 z a)) kind in
       let bs = said x ++ one (place_in x) (label s (row_at t r)) kb in
@@ -146,10 +149,10 @@ module _ (s t : List ℕ) (m j n : ℕ) (c : canon.Place) (kids : Forest) (p : L
       ∙ g in
       record { f = ts; at = at + suc (count kb); bits = bits ++ bs; w = w + 2 * suc (count kb); sits = ht; ends = sym e1; left = omega (arith, k, lq); held = subst (λ (u : ℕ). Held s t p' (m + q) u (bits ++ bs) (w + 2 * suc (count kb))) {x = n - l + 1} {y = n - q} (omega (arith, lq, ln)) all; weighs = omega (arith, y); goes = goes' }
 
-  far_more : Far s t m j n c kids p z l → l ≡ suc q → l ≤ n → (m + n) * 2 ≤ length p → Rooted t j n p m → child ≡ get_or t ((get_or p ((m + q) * 2) 0 - 1) * 7) 0 → place_in x ≡ under K0 V0 D0 c z child (ltb 1 l) → said x ≡ signs (before K0 V0 D0 z child) → Far s t m j n c kids (set p ((m + q) * 2 + 1) x) (next K0 V0 z child) q
+  far_more : Far s t m j n c kids p z l → l ≡ suc q → l ≤ n → (m + n) * 2 ≤ length p → Rooted t j n p m → child ≡ get_or t ((get_or p ((m + q) * 2) 0 - 1) * 7) 0 → place_in x ≡ under K0 V0 D0 c z child (ltb 0 q) → said x ≡ signs (before K0 V0 D0 z child) → Far s t m j n c kids (set p ((m + q) * 2 + 1) x) (next K0 V0 z child) q
   far_more y lq ln long roots ch px sx = far_at y.f y.at y.bits y.w y.sits y.ends y.left y.held y.weighs y.goes lq ln long roots ch px sx
 
-pub places_more : (t p₀ : List ℕ) (m j n : ℕ) (c : canon.Place) (p : List ℕ) (z l q x child : ℕ) → Placing t p₀ m j n c p z l → l ≡ suc q → (m + n) * 2 ≤ length p₀ → child ≡ get_or t ((get_or p ((m + q) * 2) 0 - 1) * 7) 0 → place_in x ≡ under (get_or t (j * 7) 0) (get_or t (j * 7 + 4) 0) (get_or t (j * 7 + 5) 0) c z child (ltb 1 l) → said x ≡ signs (before (get_or t (j * 7) 0) (get_or t (j * 7 + 4) 0) (get_or t (j * 7 + 5) 0) z child) → (z' : ℕ) → z' ≡ next (get_or t (j * 7) 0) (get_or t (j * 7 + 4) 0) z child → Placing t p₀ m j n c (set p ((m + q) * 2 + 1) x) z' q
+pub places_more : (t p₀ : List ℕ) (m j n : ℕ) (c : canon.Place) (p : List ℕ) (z l q x child : ℕ) → Placing t p₀ m j n c p z l → l ≡ suc q → (m + n) * 2 ≤ length p₀ → child ≡ get_or t ((get_or p ((m + q) * 2) 0 - 1) * 7) 0 → place_in x ≡ under (get_or t (j * 7) 0) (get_or t (j * 7 + 4) 0) (get_or t (j * 7 + 5) 0) c z child (ltb 0 q) → said x ≡ signs (before (get_or t (j * 7) 0) (get_or t (j * 7 + 4) 0) (get_or t (j * 7 + 5) 0) z child) → (z' : ℕ) → z' ≡ next (get_or t (j * 7) 0) (get_or t (j * 7 + 4) 0) z child → Placing t p₀ m j n c (set p ((m + q) * 2 + 1) x) z' q
 places_more t p₀ m j n c p z l q x child (a, b, d, g) lq long ch px sx z' ez =
     let same = a.long in (
       kept_set p₀ p m ((m + q) * 2 + 1) x a (omega arith),
@@ -157,6 +160,10 @@ places_more t p₀ m j n c p z l q x child (a, b, d, g) lq long ch px sx z' ez =
       omega (arith, lq, d),
       λ s kids i h e k. subst (λ (y : ℕ). Far s t m j n c kids (set p ((m + q) * 2 + 1) x) y q) (sym ez) (far_more s t m j n c kids p z l q x child (g s kids i h e k) lq d (omega (arith, long, same)) b ch px sx),
     )
+
+-- the same with the rows as they were read
+pub places_row : (t p₀ : List ℕ) (m j n : ℕ) (c : canon.Place) (p : List ℕ) (z l q x : ℕ) (r b : Row) → r ≡ row_at t j → b ≡ row_at t (get_or p ((m + q) * 2) 0 - 1) → Placing t p₀ m j n c p z l → l ≡ suc q → (m + n) * 2 ≤ length p₀ → place_in x ≡ under r.kind r.value r.detail c z b.kind (ltb 0 q) → said x ≡ signs (before r.kind r.value r.detail z b.kind) → (z' : ℕ) → z' ≡ next r.kind r.value z b.kind → Placing t p₀ m j n c (set p ((m + q) * 2 + 1) x) z' q
+places_row t p₀ m j n c p z l q x r b e f g lq long px sx z' ez = places_more t p₀ m j n c p z l q x b.kind g lq long (ap (λ (w : Row). w.kind) f) (px ∙ ap (λ (w : Row). under w.kind w.value w.detail c z b.kind (ltb 0 q)) e) (sx ∙ ap (λ (w : Row). signs (before w.kind w.value w.detail z b.kind)) e) z' (ez ∙ ap (λ (w : Row). next w.kind w.value z b.kind) e)
 
 module _ (s t : List ℕ) (m j n : ℕ) (c : canon.Place) (kids : Forest) (p : List ℕ) (z l : ℕ) where
   abbrev Done : Type 0
@@ -222,6 +229,13 @@ closes_none p m = (kept_all p m, λ s t. (0, subst (λ (k : ℕ). Held s t p m k
 
 -- ---- a copied text
 
+slice_none : (f t : ℕ) (l : List ℕ) → t ≤ f → slice f t l ≡ []
+slice_none zero zero l h = refl
+slice_none (suc f) zero l h = refl
+slice_none zero (suc t) l h = absurd (omega arith)
+slice_none (suc f) (suc t) [] h = refl
+slice_none (suc f) (suc t) (x ∷ l) h = slice_none f t l (omega arith)
+
 slice_long : (f t : ℕ) (l : List ℕ) → length l ≤ t → slice f (length l) l ≡ slice f t l
 slice_long zero zero [] h = refl
 slice_long zero (suc t) [] h = refl
@@ -232,33 +246,51 @@ slice_long zero (suc t) (x ∷ l) h = ap (λ (z : List ℕ). x ∷ z) (slice_lon
 slice_long (suc f) zero (x ∷ l) h = absurd (omega arith)
 slice_long (suc f) (suc t) (x ∷ l) h = slice_long f t l (omega arith)
 
-pub ends_there : (k e q r : ℕ) → q ≡ cond (eqb k kinds.F_STRING) 1 0 → r ≡ e + q → (i : ℕ) (s : List ℕ) → slice i r s ≡ slice i (cond (eqb k kinds.F_STRING) (e + 1) e) s
-ends_there k e q r h g i s = ap (λ (n : ℕ). slice i n s) (g ∙ go (eqb k kinds.F_STRING) h)
+-- as far as a list reaches
+clipped : (f t a b : ℕ) (l : List ℕ) → (b ≡ t) ⊎ ((b ≡ length l) × (length l ≤ t)) → (a ≡ f) ⊎ ((a ≡ b) × (b ≤ f)) → slice a b l ≡ slice f t l
+clipped f t a b l x y = start y ∙ stop x
   where
-    go : (b : Bool) → q ≡ cond b 1 0 → e + q ≡ cond b (e + 1) e
-    go true h = omega (arith, h)
-    go false h = omega (arith, h)
+    start : (a ≡ f) ⊎ ((a ≡ b) × (b ≤ f)) → slice a b l ≡ slice f b l
+    start (inl e) = ap (λ (n : ℕ). slice n b l) e
+    start (inr (e, h)) = slice_none a b l (omega (arith, e)) ∙ sym (slice_none f b l h)
 
-pub ends_behind : (k e most : ℕ) → most ≤ e → (i : ℕ) (s : List ℕ) → length s ≡ most → slice i most s ≡ slice i (cond (eqb k kinds.F_STRING) (e + 1) e) s
-ends_behind k e most h i s g = ap (λ (n : ℕ). slice i n s) (sym g) ∙ slice_long i (cond (eqb k kinds.F_STRING) (e + 1) e) s (go (eqb k kinds.F_STRING))
-  where
-    go : (b : Bool) → length s ≤ cond b (e + 1) e
-    go true = omega (arith, g)
-    go false = omega (arith, g)
+    stop : (b ≡ t) ⊎ ((b ≡ length l) × (length l ≤ t)) → slice f b l ≡ slice f t l
+    stop (inl e) = ap (λ (n : ℕ). slice f n l) e
+    stop (inr (e, h)) = ap (λ (n : ℕ). slice f n l) e ∙ slice_long f t l h
 
-pub quote_small : (k q : ℕ) → q ≡ cond (eqb k kinds.F_STRING) 1 0 → q ≤ 1
-quote_small k q h = go (eqb k kinds.F_STRING) h
+pub copied_so : (s : List ℕ) (r : Row) (q a b : ℕ) → q ≡ cond (eqb r.kind kinds.F_STRING) 1 0 → b ≡ min (r.end + q) (length s) → a ≡ min r.start b → slice a b s ≡ text_at s r
+copied_so s r q a b h e k = clipped r.start (cond (eqb r.kind kinds.F_STRING) (r.end + 1) r.end) a b s (stop (r.end + q) (ends (eqb r.kind kinds.F_STRING) h) e (either (r.end + q) (length s))) (start k (either r.start b))
   where
-    go : (b : Bool) → q ≡ cond b 1 0 → q ≤ 1
-    go true h = omega (arith, h)
-    go false h = omega (arith, h)
+    ends : (f : Bool) → q ≡ cond f 1 0 → r.end + q ≡ cond f (r.end + 1) r.end
+    ends true h = omega (arith, h)
+    ends false h = omega (arith, h)
+
+    either : (n m : ℕ) → (n ≤ m) ⊎ (m ≤ n)
+    either zero m = inl (omega arith)
+    either (suc n) zero = inr (omega arith)
+    either (suc n) (suc m) = on (either n m)
+      where
+        on : (n ≤ m) ⊎ (m ≤ n) → (suc n ≤ suc m) ⊎ (suc m ≤ suc n)
+        on (inl h) = inl (omega arith)
+        on (inr h) = inr (omega arith)
+
+    stop : (n : ℕ) {t : ℕ} → n ≡ t → b ≡ min n (length s) → (n ≤ length s) ⊎ (length s ≤ n) → (b ≡ t) ⊎ ((b ≡ length s) × (length s ≤ t))
+    stop n g e (inl l) = inl (omega (arith, g, e, l))
+    stop n g e (inr l) = inr (omega (arith, e, l), omega (arith, g, l))
+
+    start : a ≡ min r.start b → (r.start ≤ b) ⊎ (b ≤ r.start) → (a ≡ r.start) ⊎ ((a ≡ b) × (b ≤ r.start))
+    start k (inl l) = inl (omega (arith, k, l))
+    start k (inr l) = inr (omega (arith, k, l), l)
 
 -- ---- a pair
 
-pub needs_at : (t : List ℕ) (row what : ℕ) (c : Place) (r : Bool) → meant c ≡ place_in what → ((kids : Forest) → canon.empty kids ≡ eqb (get_or t ((row - 1) * 7 + 3) 0) 0 → r ≡ canon.needs (meant c) (mark (get_or t ((row - 1) * 7) 0) (get_or t ((row - 1) * 7 + 4) 0) (get_or t ((row - 1) * 7 + 5) 0)) kids) → (s : List ℕ) (j : ℕ) (kids : Forest) → row ≡ suc j → canon.empty kids ≡ eqb (get_or t (j * 7 + 3) 0) 0 → r ≡ canon.needs (place_in what) (label s (row_at t j)) kids
-needs_at t row what c r e f s j kids h g =
-    let q : row - 1 ≡ j = omega (arith, h) in
-    f kids (g ∙ ap (λ (n : ℕ). eqb (get_or t (n * 7 + 3) 0) 0) (sym q)) ∙ (λ i. canon.needs (e i) (mark (get_or t (q i * 7) 0) (get_or t (q i * 7 + 4) 0) (get_or t (q i * 7 + 5) 0)) kids)
+abbrev marked : Row → Label
+marked w = record { kind = w.kind; value = w.value; detail = w.detail; text = [] }
+
+pub needs_at : (t : List ℕ) (number what : ℕ) (c : canon.Place) (w : Row) (r : Bool) → w ≡ row_at t (number - 1) → c ≡ place_in what → ((kids : Forest) → canon.empty kids ≡ eqb w.children 0 → r ≡ canon.needs c (marked w) kids) → (s : List ℕ) (j : ℕ) (kids : Forest) → number ≡ suc j → canon.empty kids ≡ eqb (get_or t (j * 7 + 3) 0) 0 → r ≡ canon.needs (place_in what) (label s (row_at t j)) kids
+needs_at t number what c w r h e f s j kids n g =
+    let q : w ≡ row_at t j = h ∙ ap (row_at t) (omega (arith, n)) in
+    f kids (g ∙ ap (λ (x : Row). eqb x.children 0) (sym q)) ∙ (λ i. canon.needs (e i) (marked (q i)) kids)
 
 -- ---- a turn
 
@@ -449,20 +481,20 @@ writes_end s t n p₀ text₀ p text x (suc top) g h f y = absurd (omega arith)
 pub writes_ready : (s t : List ℕ) (n : ℕ) (p₀ text₀ p text : List ℕ) (x : Sink) (top m : ℕ) → Writing s t n p₀ text₀ p text x top → ((f : Forest) × Planted s t n f) → n * 4 ≤ length p₀ → top ≡ suc m → (bs : List Bit) × (w : ℕ) × Held s t p 0 (suc m) bs w × (w * 2 ≤ length p)
 writes_ready s t n p₀ text₀ p text x top m g (f, y) h e = let l = g.long in let (bs, w, d, u, q) = g.goes f y in (bs, w, subst (λ (k : ℕ). Held s t p 0 k bs w) e d, omega (arith, u, l, h))
 
-pub writes_more : (s t : List ℕ) (n : ℕ) (p₀ text₀ p text : List ℕ) (x : Sink) (top m : ℕ) (p' text' : List ℕ) (r : Turn) → Writing s t n p₀ text₀ p text x top → ((f : Forest) × Planted s t n f) → n * 4 ≤ length p₀ → top ≡ suc m → length p' ≡ length p → Turned s t p text m x p' text' r → Writing s t n p₀ text₀ p' text' r.sink r.top × (load t p' r.top < load t p top)
-writes_more s t n p₀ text₀ p text x top m p' text' r g (f₀, y₀) h e k z = (record { long = k ∙ l; goes = λ f y. on f y (g.goes f y) }, less (g.goes f₀ y₀))
+pub writes_more : (s t : List ℕ) (n : ℕ) (p₀ text₀ p text : List ℕ) (x : Sink) (top m : ℕ) (p' text' : List ℕ) (x' : Sink) (z' : ℕ) → Writing s t n p₀ text₀ p text x top → ((f : Forest) × Planted s t n f) → n * 4 ≤ length p₀ → top ≡ suc m → length p' ≡ length p → Turned s t p text m x p' text' x' z' → Writing s t n p₀ text₀ p' text' x' z' × (load t p' z' < load t p top)
+writes_more s t n p₀ text₀ p text x top m p' text' x' z' g (f₀, y₀) h e k z = (record { long = k ∙ l; goes = λ f y. on f y (g.goes f y) }, less (g.goes f₀ y₀))
   where
     l : length p ≡ length p₀
     l = g.long
 
-    on : (f : Forest) → Planted s t n f → ((bs : List Bit) × (w : ℕ) × Held s t p 0 top bs w × (w ≤ 2 * n) × (telling (state text x) bs ≡ telling (state text₀ empty) (tokens f))) → (bs : List Bit) × (w : ℕ) × Held s t p' 0 r.top bs w × (w ≤ 2 * n) × (telling (state text' r.sink) bs ≡ telling (state text₀ empty) (tokens f))
+    on : (f : Forest) → Planted s t n f → ((bs : List Bit) × (w : ℕ) × Held s t p 0 top bs w × (w ≤ 2 * n) × (telling (state text x) bs ≡ telling (state text₀ empty) (tokens f))) → (bs : List Bit) × (w : ℕ) × Held s t p' 0 z' bs w × (w ≤ 2 * n) × (telling (state text' x') bs ≡ telling (state text₀ empty) (tokens f))
     on f y (bs, w, d, u, q) = let (bs', w', d', v, q') = z bs w (subst (λ (i : ℕ). Held s t p 0 i bs w) e d) (omega (arith, u, l, h)) in (bs', w', d', omega (arith, u, v), q' ∙ q)
 
-    less : ((bs : List Bit) × (w : ℕ) × Held s t p 0 top bs w × (w ≤ 2 * n) × (telling (state text x) bs ≡ telling (state text₀ empty) (tokens f₀))) → load t p' r.top < load t p top
+    less : ((bs : List Bit) × (w : ℕ) × Held s t p 0 top bs w × (w ≤ 2 * n) × (telling (state text x) bs ≡ telling (state text₀ empty) (tokens f₀))) → load t p' z' < load t p top
     less (bs, w, d, u, q) =
         let (bs', w', d', v, q') = z bs w (subst (λ (i : ℕ). Held s t p 0 i bs w) e d) (omega (arith, u, l, h)) in
         let a = (held_load s t p top bs w d).0 in
-        let b = (held_load s t p' r.top bs' w' d').0 in
+        let b = (held_load s t p' z' bs' w' d').0 in
         omega (arith, a, b, v)
 
 -- ---- as the functions have it
@@ -471,6 +503,12 @@ pub opened_so : (t p p₁ p₂ p₃ : List ℕ) (m j : ℕ) (c c' : canon.Place)
 opened_so t p p₁ p₂ p₃ m j c c' pair z x k₁ k₂ e u sx long q =
     subst (λ (v : List ℕ). Kept p v m × Opened t j c pair v m (m + 1 + (row_at t j).children)) (sym q)
     (opens t p p₁ p₂ m j c pair z x k₁ k₂ (subst (λ (v : canon.Place). PlacedUnder t j (row_at t j).children v p₂ (m + 1) z) e u) (sx ∙ ap (λ (v : canon.Place). signs (behind (row_at t j).kind (row_at t j).value (row_at t j).detail z v.more) ++ closing pair) e) long)
+
+-- the same with the row as it was read
+pub opened_row : (t p p₁ p₂ p₃ : List ℕ) (m j : ℕ) (c c' : canon.Place) (pair : Bool) (z x : ℕ) (r : Row) → r ≡ row_at t j → Kept p p₁ (m + 1) → Kept p₁ p₂ (m + 1) → c' ≡ inner pair c → PlacedUnder t j r.children c' p₂ (m + 1) z → said x ≡ signs (behind r.kind r.value r.detail z c'.more) ++ closing pair → suc m * 2 ≤ length p → p₃ ≡ set (set p₂ (m * 2) 0) (m * 2 + 1) x → Kept p p₃ m × Opened t j c pair p₃ m (m + 1 + r.children)
+opened_row t p p₁ p₂ p₃ m j c c' pair z x r e k₁ k₂ f u sx long q =
+    let y = opened_so t p p₁ p₂ p₃ m j c c' pair z x k₁ k₂ f (subst (λ (w : Row). PlacedUnder t j w.children c' p₂ (m + 1) z) e u) (sx ∙ ap (λ (w : Row). signs (behind w.kind w.value w.detail z c'.more) ++ closing pair) e) long q in
+    subst (λ (w : Row). Kept p p₃ m × Opened t j c pair p₃ m (m + 1 + w.children)) (sym e) y
 
 pub record Fits (s t p : List ℕ) (m : ℕ) : Type 0 where
   pub row : get_or p (m * 2) 0 * 7 ≤ length t
@@ -485,7 +523,7 @@ fits_so s t p m (bs, w, h, l) =
     record { row = y.room; entry = omega (arith, a, b, d, l) }
 
 module _ (s t p text text₁ : List ℕ) (m : ℕ) (x x₁ : Sink) (pair : Bool) (told : state text₁ x₁ ≡ telling (state text x) (said (get_or p (m * 2 + 1) 0) ++ opening pair)) where
-  pub takes_words : get_or p (m * 2) 0 ≡ 0 → pair ≡ false → Turned s t p text m x p text₁ (record { sink = x₁; top = m })
+  pub takes_words : get_or p (m * 2) 0 ≡ 0 → pair ≡ false → Turned s t p text m x p text₁ x₁ m
   takes_words e n bs w h l = turned_words s t p m (state text x) (state text₁ x₁) pair bs w (top_of s t p m bs w h) told e n
 
   pub open_fits : (bs : List Bit) × (w : ℕ) × Held s t p 0 (suc m) bs w × (w * 2 ≤ length p) → 1 ≤ get_or p (m * 2) 0 → Backs t (get_or p (m * 2) 0 - 1) (row_at t (get_or p (m * 2) 0 - 1)).children × ((suc m + (row_at t (get_or p (m * 2) 0 - 1)).children) * 2 ≤ length p)
@@ -495,13 +533,13 @@ module _ (s t p text text₁ : List ℕ) (m : ℕ) (x x₁ : Sink) (pair : Bool)
       (top_backs s t p m (state text x) (state text₁ x₁) pair bs w y told o, top_room s t p m (state text x) (state text₁ x₁) pair bs w y told o l)
 
   module _ (p' : List ℕ) (z : ℕ) (n : 1 ≤ get_or p (m * 2) 0) (pairs : (s : List ℕ) (j : ℕ) (kids : Forest) → get_or p (m * 2) 0 ≡ suc j → canon.empty kids ≡ eqb (get_or t (j * 7 + 3) 0) 0 → pair ≡ canon.needs (place_in (get_or p (m * 2 + 1) 0)) (label s (row_at t j)) kids) (k : Kept p p' m) where
-    pub takes_copy : (text₂ : List ℕ) (x₂ : Sink) → one_of (row_at t (get_or p (m * 2) 0 - 1)).kind copied ≡ true → state text₂ x₂ ≡ tell (state text₁ x₁) (copy (text_at s (row_at t (get_or p (m * 2) 0 - 1)))) → ClosedBy pair p' m z → Turned s t p text m x p' text₂ (record { sink = x₂; top = z })
+    pub takes_copy : (text₂ : List ℕ) (x₂ : Sink) → one_of (row_at t (get_or p (m * 2) 0 - 1)).kind copied ≡ true → state text₂ x₂ ≡ tell (state text₁ x₁) (copy (text_at s (row_at t (get_or p (m * 2) 0 - 1)))) → ClosedBy pair p' m z → Turned s t p text m x p' text₂ x₂ z
     takes_copy text₂ x₂ c e cl bs w h l =
         let y = top_of s t p m bs w h in
         let o = on_top s t p m (state text x) (state text₁ x₁) pair bs w y told n in
         turned_copy s t p m (state text x) (state text₁ x₁) pair bs w y told p' z o (pairs s (get_or p (m * 2) 0 - 1) o.kids (omega arith)) k (state text₂ x₂) c e cl
 
-    pub takes_open : (c : canon.Place) → one_of (row_at t (get_or p (m * 2) 0 - 1)).kind copied ≡ false → c ≡ place_in (get_or p (m * 2 + 1) 0) → Opened t (get_or p (m * 2) 0 - 1) c pair p' m z → Turned s t p text m x p' text₁ (record { sink = x₁; top = z })
+    pub takes_open : (c : canon.Place) → one_of (row_at t (get_or p (m * 2) 0 - 1)).kind copied ≡ false → c ≡ place_in (get_or p (m * 2 + 1) 0) → Opened t (get_or p (m * 2) 0 - 1) c pair p' m z → Turned s t p text m x p' text₁ x₁ z
     takes_open c d e op bs w h l =
         let y = top_of s t p m bs w h in
         let o = on_top s t p m (state text x) (state text₁ x₁) pair bs w y told n in

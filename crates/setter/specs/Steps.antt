@@ -1,7 +1,6 @@
 -- What the entry point's steps come to. Not to be believed: only contracts inside the printer cite it; `Prints` (roundtrip/specs/Prints.antt) is what is promised.
-use Rattle.std.specs.Prelude.{◌≡◌, List, ◌++◌, true, cond, ◌≢◌, ℕ, zero, suc, ◌+◌, ◌*◌, ◌≤◌, eqb, leb, length, get_or}
+use Rattle.std.specs.Prelude.{Ok, ◌≡◌, List, ◌++◌, true, cond, ◌≢◌, ℕ, zero, suc, ◌+◌, ◌*◌, ◌≤◌, eqb, leb, length, get_or}
 use Rattle.chars.specs.declared.Answer.{Answer}
-use Rattle.tokens.specs.declared.Whole.TheVariants.{Fine}
 use Rattle.tokens.specs.Tokens.{whole_of}
 use Rattle.rows.specs.Kinds as kinds
 use Rattle.grammar.specs.Grammar.{Parts}
@@ -20,7 +19,7 @@ use Rattle.setter.specs.declared.entries.Printed.{Printed}
 -- The n rows of a source with the reading p stand first in the table t.
 pub record Rowed (s t : List ℕ) (n : ℕ) (p : Parts) : Type 0 where
   pub reading : Reading true true s p
-  pub whole : whole_of s ≡ Fine
+  pub whole : whole_of s ≡ (Ok tt)
   pub count : n ≡ length (rows_of true s p)
   pub behind : List ℕ
   pub table : t ≡ flat (rows_of true s p) ++ behind

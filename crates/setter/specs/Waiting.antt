@@ -1,10 +1,10 @@
 -- Where trees stand in a table, and what the stack of the printer means. Not to be believed: only contracts inside the printer cite it; `write`'s says what it comes to.
-use Rattle.std.specs.Prelude.{◌≡◌, List, [], ◌∷◌, ◌++◌, Bool, cond, ℕ, zero, suc, ◌+◌, ◌-◌, ◌*◌, ◌≤◌, ◌<◌, eqb, length, get_or}
+use Rattle.std.specs.Prelude.{◌≡◌, List, [], ◌++◌, Bool, cond, ℕ, zero, suc, ◌+◌, ◌-◌, ◌*◌, ◌≤◌, ◌<◌, eqb, length, get_or}
 use Rattle.std.proofs.Math.Seq.{slice}
 use Rattle.rows.specs.Kinds as kinds
 use Rattle.rows.specs.Rows.{width}
 use Rattle.grammar.specs.Rows.{Row}
-use Rattle.canon.specs.Trees.{Label, Forest, none, tree, label}
+use Rattle.canon.specs.Trees.{Forest, none, tree, label}
 use Rattle.canon.specs.Layout as canon
 use Rattle.canon.specs.Text.{Bit, signs, inner, tokens}
 use Rattle.canon.specs.Events.{closing}
@@ -13,12 +13,15 @@ use Rattle.sink.specs.declared.Sink.{Sink}
 use Rattle.sink.specs.Told.{empty, state, telling, said}
 use Rattle.layouts.specs.Phases.{one, going, behind}
 use Rattle.layouts.specs.Packed.{place_in}
-use Rattle.setter.specs.declared.Turn.{Turn}
+use Rattle.setter.specs.declared.Row as declared
 
 -- Row i of a table, from 0.
 abbrev pub row_at : List ℕ → ℕ → Row
 row_at t i =
     record { kind = get_or t (i * width) 0; start = get_or t (i * width + 1) 0; end = get_or t (i * width + 2) 0; children = get_or t (i * width + 3) 0; value = get_or t (i * width + 4) 0; detail = get_or t (i * width + 5) 0; size = get_or t (i * width + 6) 0 }
+
+abbrev pub as_row : declared.Row → Row
+as_row r = record { kind = r.mark.kind; start = r.start; end = r.end; children = r.children; value = r.mark.value; detail = r.mark.detail; size = r.size }
 
 -- Row j of a table stands over these trees.
 pub record Over (t : List ℕ) (j : ℕ) (kids : Forest) : Type 0 where
@@ -95,8 +98,8 @@ abbrev pub text_at : List ℕ → Row → List ℕ
 text_at s r = slice r.start (cond (eqb r.kind kinds.F_STRING) (r.end + 1) r.end) s
 
 -- A turn: from entry m, which is on top, on; less waits then, and it is the same print.
-abbrev pub Turned : List ℕ → List ℕ → List ℕ → List ℕ → ℕ → Sink → List ℕ → List ℕ → Turn → Type 0
-Turned s t p text m x p' text' r = (bs : List Bit) (w : ℕ) → Held s t p 0 (suc m) bs w → w * 2 ≤ length p → (bs' : List Bit) × (w' : ℕ) × Held s t p' 0 r.top bs' w' × (w' < w) × (telling (state text' r.sink) bs' ≡ telling (state text x) bs)
+abbrev pub Turned : List ℕ → List ℕ → List ℕ → List ℕ → ℕ → Sink → List ℕ → List ℕ → Sink → ℕ → Type 0
+Turned s t p text m x p' text' x' m' = (bs : List Bit) (w : ℕ) → Held s t p 0 (suc m) bs w → w * 2 ≤ length p → (bs' : List Bit) × (w' : ℕ) × Held s t p' 0 m' bs' w' × (w' < w) × (telling (state text' x') bs' ≡ telling (state text x) bs)
 
 -- What is written: the tokens of each tree that stands so.
 abbrev pub Writes : List ℕ → List ℕ → ℕ → List ℕ → List ℕ → Sink → Type 0

@@ -10,7 +10,7 @@ use rows::{WIDTH, kind};
 use sink::Sink;
 
 // The answer: number, place, how many bytes the print has, and how many rows are tests.
-#[derive(Clone, Copy)]
+#[derive(Clone, Copy, Debug, PartialEq, Eq)]
 pub struct Printed {
     pub number: u64,
     pub start: usize,
@@ -48,12 +48,10 @@ fn tests(table: &[u64], rows: usize) -> usize
     ensures { result ≡ tests_at table.now rows }
 {
     let mut count = 0;
-    let mut i = 0;
-    while i < rows {
+    for i in 0..rows {
         if table[i * WIDTH] == kind::TEST {
             count += 1;
         }
-        i += 1;
     }
     count
 }
@@ -61,11 +59,7 @@ fn tests(table: &[u64], rows: usize) -> usize
 fn clear(text: &mut [u8])
     ensures { text.new ≡ replicate (length text.old) 0 }
 {
-    let mut i = 0;
-    while i < text.len() {
-        text[i] = 0;
-        i += 1;
-    }
+    text.fill(0);
 }
 
 fn zeros() -> [u8; MOST_BYTES]

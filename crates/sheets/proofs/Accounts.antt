@@ -1,12 +1,12 @@
 -- The answers of the check and of the writer, from what their parts say.
 use mathlib.Core.Path.{◌≡◌, refl, sym, ap, subst, ◌∙◌}
 use mathlib.Core.List.{List, [], ◌∷◌, ◌++◌}
-use mathlib.Core.Bool.{Bool, true, false, cond}
+use mathlib.Core.Bool.{Bool, true}
 use mathlib.Core.Logic.{◌≢◌}
-use Prim.Native.Nat.{ℕ, zero, suc, ◌+◌, ◌-◌, ◌*◌, ◌/◌, ◌≤◌, ◌<◌}
+use Prim.Native.Nat.{ℕ, suc, ◌+◌, ◌-◌, ◌*◌, ◌/◌, ◌≤◌, ◌<◌}
 use native.Mathlib.Omega.{arith}
 use lib.Dec.{leb→le}
-use lib.ListN.{length, get_or, take, drop, replicate, length-append, length-replicate, get_or-append}
+use lib.ListN.{length, get_or, take, replicate, length-append, get_or-append}
 use lib.Seq.{sets, take_at}
 use Rattle.chars.specs.declared.Answer.{Answer}
 use Rattle.rows.specs.Kinds as kinds
@@ -20,7 +20,6 @@ use Rattle.answers.proofs.Determined.{Accepted, accepted_reads}
 use Rattle.entry.proofs.Fine.{fine_short}
 use Rattle.entry.proofs.Stored.{zeroed_all, zeroed_behind, flat_length}
 use Rattle.sheets.specs.declared.Checked.{Checked}
-use Rattle.sheets.specs.declared.Parts.TheVariants.{Filled, Unfilled}
 use Rattle.sheets.specs.Files as files
 use Rattle.sheets.specs.Files.{SHORT, LONG, bytes, words, most, Fit, File, written, Fills}
 use Rattle.sheets.specs.Matches.{roots_from, Differ, Declares}
@@ -28,11 +27,13 @@ use Rattle.sheets.specs.Checks as checks
 use Rattle.sheets.specs.Checks.{WRONG_INDEX, unfilled, differing, refusing, accepting, of_kind, Makes, room_for, Checks}
 use Rattle.sheets.specs.Writes as writer
 use Rattle.sheets.specs.Writes.{file_for, sized, Writes}
-use Rattle.sheets.specs.Places.{source_count, row_count, index_count, rows_place, indexes_place, filled, source_of, rows_of, indexes_of, file_of}
+use Rattle.sheets.specs.Places.{filled, file_of}
 use Rattle.sheets.specs.Steps as steps
-use Rattle.sheets.specs.Steps.{NONE, PartsAre, Compared, Tabled, First, same, differ}
+use Rattle.sheets.specs.Walks.{Tabled}
+use Rattle.sheets.specs.Steps.{NONE, Parsed, rows_in, indexes_in, Compared, First}
 use Rattle.sheets.proofs.Widths.{Bytes}
-use Rattle.sheets.proofs.Filled.{filled_fills, fills_filled, filled_rows}
+use Rattle.sheets.proofs.Filled.{filled_fills, fills_filled}
+use Rattle.sheets.proofs.Loads.{parsed_rows, parsed_indexes}
 use Rattle.sheets.proofs.Stores.{zeros_behind, written_length, sections_stored}
 use Rattle.sheets.proofs.Firsts.{one_tabled}
 use Rattle.sheets.proofs.Answered.{made_declares, made_few, fine_of}
@@ -42,28 +43,19 @@ module _ (b t t₁ : List ℕ) {a : Answer} {c : Checked} {u : List ℕ} where
   pub refusing_with : (c ≡ refusing a) × (u ≡ zeroed t₁ 0) → length t₁ ≡ length t → Checks true b (length t) (refusing a) (replicate (length t) 0) → Checks true b (length t) c u
   refusing_with e l h = subst (λ (x : Checked). Checks true b (length t) x u) (sym e.0) (subst (Checks true b (length t) (refusing a)) (sym (e.1 ∙ zeroed_all t₁ ∙ ap (λ (n : ℕ). replicate n 0) l)) h)
 
-pub not_filled : (b : List ℕ) (size : ℕ) → PartsAre b Unfilled → Checks true b size (refusing unfilled) (replicate size 0)
+pub not_filled : (b : List ℕ) (size : ℕ) → length b ≢ filled b → Checks true b size (refusing unfilled) (replicate size 0)
 not_filled b size n = checks.none λ f h. n (fills_filled b f h).0
 
--- a file that is filled
-module _ (b : List ℕ) (each : Bytes b) (size : ℕ) {source rows indexes : ℕ} (parts : PartsAre b (Filled source rows indexes)) where
-  full : length b ≡ filled b
-  full = parts.0
-
+-- a file that its sections fill
+module _ (b : List ℕ) (each : Bytes b) (size : ℕ) {source rows indexes : List ℕ} (parts : Parsed b source rows indexes) where
   fills : Fills b (file_of b)
-  fills = filled_fills b each full
+  fills = filled_fills b each parts.full
 
-  pub places : (rows_place source + rows * 56 ≤ length b) × (indexes_place source rows + indexes * 4 ≤ length b)
-  places = let p = parts.1 in let q = parts.2 in let r = parts.3 in (omega (arith, full, p, q, r), omega (arith, full, p, q, r))
-
-  own_rows : rows_of b source rows ≡ (file_of b).rows
-  own_rows = λ i. rows_of b (parts.1 i) (parts.2 i)
-
-  as_file : {a : Answer} {t : List ℕ} → Compared (source_of b source) (rows_of b source rows) size a t → Compared (file_of b).source (file_of b).rows size a t
-  as_file {a} {t} h = subst (λ (x : List ℕ). Compared x (file_of b).rows size a t) (ap (source_of b) parts.1) (subst (λ (x : List Row). Compared (source_of b source) x size a t) own_rows h)
+  as_file : {a : Answer} {t : List ℕ} → Compared source (rows_in rows) size a t → Compared (file_of b).source (file_of b).rows size a t
+  as_file {a} {t} h = subst (λ (x : List ℕ). Compared x (file_of b).rows size a t) parts.source_is (subst (λ (x : List Row). Compared source x size a t) (parsed_rows b parts) h)
 
   -- refused by (a), or 18
-  pub source_or_row : {a : Answer} {t : List ℕ} → Compared (source_of b source) (rows_of b source rows) size a t → a.number ≢ 0 → Checks true b size (refusing a) (replicate size 0)
+  pub source_or_row : {a : Answer} {t : List ℕ} → Compared source (rows_in rows) size a t → a.number ≢ 0 → Checks true b size (refusing a) (replicate size 0)
   source_or_row h n = go (as_file h) n
     where
       go : {a : Answer} {t : List ℕ} → Compared (file_of b).source (file_of b).rows size a t → a.number ≢ 0 → Checks true b size (refusing a) (replicate size 0)
@@ -72,57 +64,52 @@ module _ (b : List ℕ) (each : Bytes b) (size : ℕ) {source rows indexes : ℕ
       go (steps.right t' m l) k = absurd (k refl)
 
   -- the rows are those of the source
-  pub record Right (t : List ℕ) : Type 0 where
+  pub record Right (n : ℕ) (t : List ℕ) : Type 0 where
     pub rest : List ℕ
     pub makes : Makes true (file_of b).source (file_of b).rows
     pub fits : length (file_of b).rows ≤ room_for size
     pub table : t ≡ flat (file_of b).rows ++ rest
-    pub count : length (file_of b).rows ≡ rows
+    pub count : length (file_of b).rows ≡ n
 
-  pub right_rows : {a : Answer} {t : List ℕ} → Compared (source_of b source) (rows_of b source rows) size a t → a.number ≡ 0 → Right t
+  pub right_rows : {a : Answer} {t : List ℕ} → Compared source (rows_in rows) size a t → a.number ≡ 0 → Right a.count t
   right_rows h n = go (as_file h) n
     where
-      go : {a : Answer} {t : List ℕ} → Compared (file_of b).source (file_of b).rows size a t → a.number ≡ 0 → Right t
+      go : {a : Answer} {t : List ℕ} → Compared (file_of b).source (file_of b).rows size a t → a.number ≡ 0 → Right a.count t
       go (steps.refused t' p k) n = absurd (k n)
       go (steps.wrong t' m l d) n = absurd (omega (arith, n))
-      go (steps.right t' m l) n = record { rest = t'; makes = m; fits = l; table = refl; count = filled_rows b each full ∙ sym parts.2 }
+      go (steps.right t' m l) n = record { rest = t'; makes = m; fits = l; table = refl; count = refl }
 
-  module _ {t : List ℕ} (r : Right t) where
-    abbrev pub tabled : Tabled t rows
+  module _ {n : ℕ} {t : List ℕ} (r : Right n t) where
+    abbrev pub tabled : Tabled t n
     tabled = let d = made_declares r.makes in record { rows = (file_of b).rows; rest = r.rest; ids = d.0; table = r.table; count = r.count; declares = d.1 }
-
-    named_as : indexes_of b source rows indexes ≡ (file_of b).indexes
-    named_as = λ i. indexes_of b (parts.1 i) (parts.2 i) (parts.3 i)
 
     declared : Declares (file_of b).rows (made_declares r.makes).0
     declared = (made_declares r.makes).1
 
-    pub index_differs : {first : ℕ} → First (indexes_of b source rows indexes) (made_declares r.makes).0 first → first ≢ NONE → Checks true b size (refusing (differing WRONG_INDEX first)) (replicate size 0)
-    index_differs (same e) n = absurd (n refl)
-    index_differs {first} (differ d l) n = checks.index fills r.makes r.fits declared (subst (λ (x : List ℕ). Differ x (made_declares r.makes).0 first) named_as d)
+    pub index_differs : {first : ℕ} → Differ (indexes_in indexes) (made_declares r.makes).0 first → Checks true b size (refusing (differing WRONG_INDEX first)) (replicate size 0)
+    index_differs {first} d = checks.index fills r.makes r.fits declared (subst (λ (x : List ℕ). Differ x (made_declares r.makes).0 first) (parsed_indexes b parts) d)
 
-    pub all_named : {first : ℕ} → First (indexes_of b source rows indexes) (made_declares r.makes).0 first → first ≡ NONE → Declares (file_of b).rows (file_of b).indexes
-    all_named (same e) n = subst (Declares (file_of b).rows) (sym e ∙ named_as) declared
-    all_named (differ d l) n = absurd (omega (arith, l, n))
+    pub all_named : indexes_in indexes ≡ (made_declares r.makes).0 → Declares (file_of b).rows (file_of b).indexes
+    all_named e = subst (Declares (file_of b).rows) (sym e ∙ parsed_indexes b parts) declared
 
-    pub cleared : (length t ≡ size) → zeroed t (rows * width) ≡ flat (file_of b).rows ++ replicate (size - width * length (file_of b).rows) 0
+    pub cleared : (length t ≡ size) → zeroed t (n * width) ≡ flat (file_of b).rows ++ replicate (size - width * length (file_of b).rows) 0
     cleared l =
         let f = flat_length (file_of b).rows in
         let c = r.count in
-        let n : rows * width ≡ length (flat (file_of b).rows) = omega (arith, f, c) in
+        let w : n * width ≡ length (flat (file_of b).rows) = omega (arith, f, c) in
         let z : length t ≡ length (flat (file_of b).rows) + length r.rest = ap length r.table ∙ length-append (flat (file_of b).rows) r.rest in
         let m : length r.rest ≡ size - width * length (file_of b).rows = omega (arith, f, z, l) in
-        (λ i. zeroed (r.table i) (n i)) ∙ zeroed_behind (flat (file_of b).rows) r.rest ∙ ap (λ (k : ℕ). flat (file_of b).rows ++ replicate k 0) m
+        (λ i. zeroed (r.table i) (w i)) ∙ zeroed_behind (flat (file_of b).rows) r.rest ∙ ap (λ (k : ℕ). flat (file_of b).rows ++ replicate k 0) m
 
-    pub room_there : (length t ≡ size) → rows * width ≤ size
+    pub room_there : (length t ≡ size) → n * width ≤ size
     room_there l = let f = flat_length (file_of b).rows in let c = r.count in let z : length t ≡ length (flat (file_of b).rows) + length r.rest = ap length r.table ∙ length-append (flat (file_of b).rows) r.rest in omega (arith, f, c, z, l)
 
-    pub accepting_with : {u : List ℕ} {first tests : ℕ} → length t ≡ size → First (indexes_of b source rows indexes) (made_declares r.makes).0 first → first ≡ NONE → u ≡ zeroed t (rows * width) → ((rs : List Row) (zs : List ℕ) → u ≡ flat rs ++ zs → length rs ≡ rows → tests ≡ of_kind kinds.TEST rs) → Checks true b size (record { number = 0; start = 0; end = length b; count = rows; tests = tests }) u
-    accepting_with {u} l f n e k =
+    pub accepting_with : {u : List ℕ} {tests : ℕ} → length t ≡ size → indexes_in indexes ≡ (made_declares r.makes).0 → u ≡ zeroed t (n * width) → ((rs : List Row) (zs : List ℕ) → u ≡ flat rs ++ zs → length rs ≡ n → tests ≡ of_kind kinds.TEST rs) → Checks true b size (record { number = 0; start = 0; end = length b; count = n; tests = tests }) u
+    accepting_with {u} l f e k =
         let c = r.count in
         let q = e ∙ cleared l in
         subst (Checks true b size _) (sym q)
-        (subst (λ (x : Checked). Checks true b size x (flat (file_of b).rows ++ replicate (size - width * length (file_of b).rows) 0)) (λ i. record { number = 0; start = 0; end = length b; count = c i; tests = sym (k (file_of b).rows _ q c) i }) (checks.accepts fills r.makes r.fits (all_named f n)))
+        (subst (λ (x : Checked). Checks true b size x (flat (file_of b).rows ++ replicate (size - width * length (file_of b).rows) 0)) (λ i. record { number = 0; start = 0; end = length b; count = c i; tests = sym (k (file_of b).rows _ q c) i }) (checks.accepts fills r.makes r.fits (all_named f)))
 
 -- the writer
 pub refuses_with : {tests : Bool} (s : List ℕ) (size room : ℕ) (f : List ℕ) {a : Answer} {t u : List ℕ} → Permitted tests true s size a t → a.number ≢ 0 → length f ≡ room → u ≡ zeroed f 0 → Writes tests s size room a t u
@@ -186,10 +173,10 @@ module _ {tests : Bool} (s : List ℕ) (size : ℕ) {a : Answer} {t : List ℕ} 
   pub bounds : (length s ≤ 65535) × (a.count ≤ 98304) × (length ids < a.count)
   bounds = let f = made_few its_makes in let d = (declared_few (made_declares its_makes).1).0 in (fine_short s its_makes.fine, omega (arith, f, its_count), omega (arith, d, its_count))
 
-  pub need_is : {need k : ℕ} → k ≡ length ids → need ≡ 4 + length s + 4 + a.count * 7 * 8 + 4 + k * 4 → need ≡ sized s rs ids
+  pub need_is : {need k : ℕ} → k ≡ length ids → need ≡ 4 + length s + 4 + a.count * 56 + 4 + k * 4 → need ≡ sized s rs ids
   need_is e q = let l = written_length (file_for s rs ids) in omega (arith, l, e, q, its_count)
 
-  pub over_with : (room : ℕ) (f : List ℕ) {need k : ℕ} {u v : List ℕ} → k ≡ length ids → need ≡ 4 + length s + 4 + a.count * 7 * 8 + 4 + k * 4 → room < need → length t ≡ size → length f ≡ room → u ≡ zeroed t 0 → v ≡ zeroed f 0 → Writes tests s size room (record { number = 10; start = 0; end = 0; count = need }) u v
+  pub over_with : (room : ℕ) (f : List ℕ) {need k : ℕ} {u v : List ℕ} → k ≡ length ids → need ≡ 4 + length s + 4 + a.count * 56 + 4 + k * 4 → room < need → length t ≡ size → length f ≡ room → u ≡ zeroed t 0 → v ≡ zeroed f 0 → Writes tests s size room (record { number = 10; start = 0; end = 0; count = need }) u v
   over_with room f {need} {k} {u} {v} e q h l m x y =
       let n = need_is e q in
       let x' : u ≡ replicate size 0 = x ∙ zeroed_all t ∙ ap (λ (j : ℕ). replicate j 0) l in
@@ -199,7 +186,7 @@ module _ {tests : Bool} (s : List ℕ) (size : ℕ) {a : Answer} {t : List ℕ} 
       (subst (λ (z : ℕ). Writes tests s size room (record { number = 10; start = 0; end = 0; count = z }) (replicate size 0) (replicate room 0)) (sym n)
       (writer.over its_makes its_fit (made_declares its_makes).1 (omega (arith, n, h)))))
 
-  pub writes_with : (room : ℕ) (f : List ℕ) {need k : ℕ} {v : List ℕ} → ((i : ℕ) → i < length t → get_or t i 0 < most LONG) → k ≡ length ids → need ≡ 4 + length s + 4 + a.count * 7 * 8 + 4 + k * 4 → need ≤ room → length f ≡ room → ((d : Tabled t a.count) → v ≡ zeroed (sets f 0 (written (file_for s d.rows d.ids))) (sized s d.rows d.ids)) → Writes tests s size room (record { number = 0; start = 0; end = length s; count = need }) t v
+  pub writes_with : (room : ℕ) (f : List ℕ) {need k : ℕ} {v : List ℕ} → ((i : ℕ) → i < length t → get_or t i 0 < most LONG) → k ≡ length ids → need ≡ 4 + length s + 4 + a.count * 56 + 4 + k * 4 → need ≤ room → length f ≡ room → ((d : Tabled t a.count) → v ≡ zeroed (sets f 0 (written (file_for s d.rows d.ids))) (sized s d.rows d.ids)) → Writes tests s size room (record { number = 0; start = 0; end = length s; count = need }) t v
   writes_with room f {need} {k} {v} small e q h m y =
       let n = need_is e q in
       let b = bounds in
@@ -220,13 +207,13 @@ module _ {tests : Bool} (s : List ℕ) (size : ℕ) {a : Answer} {t : List ℕ} 
 pub sections_are : {t : List ℕ} {n : ℕ} (d : Tabled t n) → take (n * width) t ≡ flat d.rows
 sections_are {t} {n} d = let l = flat_length d.rows in let c = d.count in ap (take (n * width)) d.table ∙ take_at (flat d.rows) d.rest (n * width) (omega (arith, l, c))
 
-pub sections_put : (s t f f₁ f₂ f₃ f₄ f₅ f₆ f₇ : List ℕ) (n k : ℕ) (p d : Tabled t n) → length p.ids ≡ k → f₁ ≡ sets f 0 (bytes 4 (length s)) → f₂ ≡ sets f₁ 4 s → f₃ ≡ sets f₂ (4 + length s) (bytes 4 n) → f₄ ≡ sets f₃ (4 + length s + 4) (words 8 (take (n * 7) t)) → f₅ ≡ sets f₄ (4 + length s + 4 + n * 7 * 8) (bytes 4 k) → f₆ ≡ sets f₅ (4 + length s + 4 + n * 7 * 8 + 4) (words 4 d.ids) → f₇ ≡ zeroed f₆ (4 + length s + 4 + n * 7 * 8 + 4 + k * 4) → f₇ ≡ zeroed (sets f 0 (written (file_for s d.rows d.ids))) (sized s d.rows d.ids)
+pub sections_put : (s t f f₁ f₂ f₃ f₄ f₅ f₆ f₇ : List ℕ) (n k : ℕ) (p d : Tabled t n) → length p.ids ≡ k → f₁ ≡ sets f 0 (bytes 4 (length s)) → f₂ ≡ sets f₁ 4 s → f₃ ≡ sets f₂ (4 + length s) (bytes 4 n) → f₄ ≡ sets f₃ (4 + length s + 4) (words 8 (take (n * 7) t)) → f₅ ≡ sets f₄ (4 + length s + 4 + n * 56) (bytes 4 k) → f₆ ≡ sets f₅ (4 + length s + 4 + n * 56 + 4) (words 4 d.ids) → f₇ ≡ zeroed f₆ (4 + length s + 4 + n * 56 + 4 + k * 4) → f₇ ≡ zeroed (sets f 0 (written (file_for s d.rows d.ids))) (sized s d.rows d.ids)
 sections_put s t f f₁ f₂ f₃ f₄ f₅ f₆ f₇ n k p d l e₁ e₂ e₃ e₄ e₅ e₆ e₇ =
     let c = d.count in
     let q : k ≡ length d.ids = sym l ∙ ap length (one_tabled p d).1 in
     let w = written_length (file_for s d.rows d.ids) in
-    let z : 4 + length s + 4 + n * 7 * 8 + 4 + k * 4 ≡ sized s d.rows d.ids = omega (arith, w, c, q) in
-    let n₄ : 4 + length s + 4 + n * 7 * 8 ≡ 4 + length s + 4 + length d.rows * 7 * 8 = omega (arith, c) in
-    let n₅ : 4 + length s + 4 + n * 7 * 8 + 4 ≡ 4 + length s + 4 + length d.rows * 7 * 8 + 4 = omega (arith, c) in
-    let g : f₆ ≡ sets f 0 (written (file_for s d.rows d.ids)) = sections_stored f f₁ f₂ f₃ f₄ f₅ f₆ (take (n * 7) t) (file_for s d.rows d.ids) 4 (4 + length s) (4 + length s + 4) (4 + length s + 4 + n * 7 * 8) (4 + length s + 4 + n * 7 * 8 + 4) e₁ refl e₂ refl (e₃ ∙ ap (λ (m : ℕ). sets f₂ (4 + length s) (bytes 4 m)) (sym c)) refl (sections_are d) e₄ n₄ (e₅ ∙ ap (λ (m : ℕ). sets f₄ (4 + length s + 4 + n * 7 * 8) (bytes 4 m)) q) n₅ e₆ in
+    let z : 4 + length s + 4 + n * 56 + 4 + k * 4 ≡ sized s d.rows d.ids = omega (arith, w, c, q) in
+    let n₄ : 4 + length s + 4 + n * 56 ≡ 4 + length s + 4 + length d.rows * 7 * 8 = omega (arith, c) in
+    let n₅ : 4 + length s + 4 + n * 56 + 4 ≡ 4 + length s + 4 + length d.rows * 7 * 8 + 4 = omega (arith, c) in
+    let g : f₆ ≡ sets f 0 (written (file_for s d.rows d.ids)) = sections_stored f f₁ f₂ f₃ f₄ f₅ f₆ (take (n * 7) t) (file_for s d.rows d.ids) 4 (4 + length s) (4 + length s + 4) (4 + length s + 4 + n * 56) (4 + length s + 4 + n * 56 + 4) e₁ refl e₂ refl (e₃ ∙ ap (λ (m : ℕ). sets f₂ (4 + length s) (bytes 4 m)) (sym c)) refl (sections_are d) e₄ n₄ (e₅ ∙ ap (λ (m : ℕ). sets f₄ (4 + length s + 4 + n * 56) (bytes 4 m)) q) n₅ e₆ in
     e₇ ∙ (λ i. zeroed (g i) (z i))

@@ -1,16 +1,16 @@
 -- C-21 permits one answer to any file, and only one; accepted are the files of readings, and those that the writer makes.
+use Rattle.std.specs.Prelude.{Ok}
 use mathlib.Core.Path.{◌≡◌, refl, sym, ap, subst, ◌∙◌}
-use mathlib.Core.List.{List, [], ◌∷◌, ◌++◌}
+use mathlib.Core.List.{List, [], ◌++◌}
 use mathlib.Core.Bool.{Bool, true, false, cond}
 use mathlib.Core.Logic.{◌≢◌, ◌⊎◌, inl, inr}
-use Prim.Native.Nat.{ℕ, suc, ◌+◌, ◌-◌, ◌*◌, ◌/◌, ◌≤◌, ◌<◌}
+use Prim.Native.Nat.{ℕ, ◌-◌, ◌*◌, ◌/◌, ◌≤◌}
 use native.Mathlib.Omega.{arith}
-use lib.Dec.{eqb, leb, leb→le}
+use lib.Dec.{eqb, leb→le}
 use lib.ListN.{length, take, replicate}
 use lib.Seq.{take_at}
 use borrow.Author.Tests.{le-leb, eqb-true, eqb-false}
 use Rattle.chars.specs.declared.Answer.{Answer}
-use Rattle.tokens.specs.declared.Whole.TheVariants.{Fine, Refused}
 use Rattle.tokens.specs.Tokens.{whole_of, counted}
 use Rattle.rows.specs.Kinds as kinds
 use Rattle.rows.specs.Rows.{width}
@@ -74,7 +74,7 @@ module _ {tests : Bool} {s : List ℕ} {rs : List Row} (m : Makes tests s rs) wh
       ap (λ (x : Answer). x.number) (one_permitted tests true s size p (read m.fine m.read)).0
       ∙ ap (λ (b : Bool). (cond {A = Answer} b (record { number = 0; start = 0; end = length s; count = length rs }) (record { number = 10; start = 0; end = 0; count = length rs })).number) (le-leb (length rs) (size / width) h)
 
-pub fine_of : {tests : Bool} {s : List ℕ} {size : ℕ} {a : Answer} {t : List ℕ} → Permitted tests true s size a t → a.number ≡ 0 → whole_of s ≡ Fine
+pub fine_of : {tests : Bool} {s : List ℕ} {size : ℕ} {a : Answer} {t : List ℕ} → Permitted tests true s size a t → a.number ≡ 0 → whole_of s ≡ (Ok tt)
 fine_of {s = s} (early {r = r} e) q = let h = (whole_number s r e).0 in absurd (omega (arith, h, q))
 fine_of (read e x) q = e
 

@@ -1,12 +1,12 @@
 -- A file by its sections is the file by places: the sections fill it exactly where its length is that which the counts ask for.
 use mathlib.Core.Path.{◌≡◌, refl, sym, ap, subst, ◌∙◌}
-use mathlib.Core.List.{List, [], ◌∷◌, ◌++◌, append_assoc}
-use Prim.Native.Nat.{ℕ, zero, suc, ◌+◌, ◌-◌, ◌*◌, ◌≤◌, ◌<◌}
+use mathlib.Core.List.{List, [], ◌∷◌, ◌++◌}
+use Prim.Native.Nat.{ℕ, ◌+◌, ◌-◌, ◌*◌, ◌≤◌, ◌<◌}
 use native.Mathlib.Omega.{arith}
 use lib.ListN.{length, take, drop, length-append, length-drop}
 use lib.Seq.{length-take-le, take_all, take-add, drop_at, take-append-le, drop-append-le, take-length}
 use Rattle.rows.specs.Rows.{width}
-use Rattle.grammar.specs.Rows.{Row, numbers, flat}
+use Rattle.grammar.specs.Rows.{Row, flat}
 use Rattle.entry.proofs.Stored.{flat_length}
 use Rattle.sheets.specs.Files.{SHORT, LONG, bytes, words, most, Fit, none, more, File, written, Fills}
 use Rattle.sheets.specs.Places.{number_at, numbers_at, rows_from, source_count, rows_place, row_count, indexes_place, index_count, filled, source_of, rows_of, indexes_of, file_of}

@@ -5,12 +5,12 @@ use Prim.Native.Nat.{ℕ, zero, suc, ◌+◌, ◌-◌, ◌*◌, ◌≤◌, ◌<�
 use native.Mathlib.Omega.{arith}
 use lib.ListN.{length, get_or, length-append, get_or-append}
 use lib.Seq.{get_or_at, get_or-append-add, append_snoc}
-use Rattle.rows.specs.Kinds as kinds
 use Rattle.rows.specs.Rows.{width}
 use Rattle.grammar.specs.Rows.{Row, numbers, flat}
 use Rattle.grammar.specs.Subtrees.{total, Trees, none, more}
 use Rattle.grammar.proofs.Subtrees.{trees_length}
 use Rattle.sheets.specs.Matches.{roots_from, Declares}
+use Rattle.sheets.specs.Walks.{Walk}
 
 -- no row
 abbrev pub nil : Row
@@ -41,17 +41,6 @@ roots_append n [] ys = let e : n ≡ n + 0 = omega arith in ap (λ (m : ℕ). ro
 roots_append n (x ∷ xs) ys =
     let e : n + x.size + total xs ≡ n + (x.size + total xs) = omega arith in
     ap (λ (l : List ℕ). (n + x.size - 1) ∷ l) (roots_append (n + x.size) xs ys ∙ ap (λ (m : ℕ). roots_from (n + x.size) xs ++ roots_from m ys) e)
-
--- `left` declarations are to come, and their trees end before row `row`; `rest` are the indexes of those gone through
-pub record Walk (rs : List Row) (ids : List ℕ) (left row : ℕ) (rest : List ℕ) : Type 0 where
-  pub front : List Row
-  pub after : List Row
-  pub roots : List Row
-  pub trees : Trees front roots
-  pub rows : rs ≡ front ++ after
-  pub place : length front ≡ row
-  pub count : length roots ≡ left
-  pub named : ids ≡ roots_from 0 roots ++ rest
 
 pub record Stepped (rs : List Row) (ids : List ℕ) (left row : ℕ) (rest : List ℕ) : Type 0 where
   pub inside : row ≤ length rs

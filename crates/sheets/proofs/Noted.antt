@@ -3,11 +3,11 @@ use mathlib.Core.Path.{◌≡◌, refl, sym, ap, subst, ◌∙◌}
 use mathlib.Core.List.{List, [], ◌∷◌, ◌++◌, append_assoc, append-nil}
 use mathlib.Core.Bool.{Bool, true, false, ◌&&◌, not, cond}
 use mathlib.Core.Logic.{◌≢◌}
-use Prim.Native.Nat.{ℕ, zero, suc, ◌+◌, ◌-◌, ◌*◌, ◌/◌, ◌%◌, ◌≤◌, ◌<◌}
+use Prim.Native.Nat.{ℕ, suc, ◌+◌, ◌-◌, ◌*◌, ◌/◌, ◌%◌, ◌≤◌, ◌<◌}
 use native.Mathlib.Decide.{dec_lt}
 use native.Mathlib.Omega.{arith}
 use lib.Dec.{eqb, ltb}
-use lib.ListN.{length, set, get_or, length-append, get_or-append}
+use lib.ListN.{length, get_or, length-append, get_or-append}
 use lib.Seq.{set_at, get_or_at, append_snoc, get_or-append-add}
 use borrow.Author.Tests.{lt-ltb, le-ltb, eq-eqb, eqb-true}
 use Rattle.rows.specs.declared.Row as machine
@@ -16,7 +16,7 @@ use Rattle.grammar.specs.Rows.{Row, numbers, flat}
 use Rattle.answers.proofs.Ahead.{left_true, right_true}
 use Rattle.parser.specs.Going.{as_row, store}
 use Rattle.entry.proofs.Stored.{flat_length}
-use Rattle.sheets.specs.Matches.{Differ, other, missing, too_many, later}
+use Rattle.sheets.specs.Matches.{Differ, other, missing, later}
 
 module _ (a : List ℕ) (k : ℕ) (whole : length a ≡ k * width) where
   long : (x : ℕ) → length (a ++ (x ∷ [])) ≡ k * width + 1

@@ -3,14 +3,14 @@ use mathlib.Core.Path.{◌≡◌, refl, sym, ap, subst, ◌∙◌}
 use mathlib.Core.List.{List, [], ◌∷◌, ◌++◌, append_assoc, append-nil}
 use mathlib.Core.Bool.{Bool, true, false, cond}
 use mathlib.Core.Logic.{◌≢◌, ◌⊎◌, inl, inr}
-use Prim.Native.Nat.{ℕ, zero, suc, ◌+◌, ◌-◌, ◌*◌, ◌/◌, ◌≤◌, ◌<◌}
+use Prim.Native.Nat.{ℕ, suc, ◌+◌, ◌-◌, ◌*◌, ◌≤◌, ◌<◌}
+use Rattle.std.specs.Prelude.{min}
 use native.Mathlib.Omega.{arith}
 use lib.Dec.{ltb, leb}
-use lib.ListN.{length, get_or, set, take, drop, replicate, length-append, length-drop, drop_of_length-le, length-replicate, length-set}
-use lib.Seq.{length_front, take_at, take_all, take-suc-set, drop-set-lt, get_or_at, append_snoc}
-use borrow.Author.Tests.{lt-ltb, le-ltb, lt-leb}
+use lib.ListN.{length, get_or, set, take, drop, replicate, length-append, length-drop, drop_of_length-le}
+use lib.Seq.{take_at, take-suc-set, drop-set-lt, get_or_at, append_snoc}
+use borrow.Author.Tests.{lt-ltb, le-ltb, lt-leb, leb-true, leb-false}
 use Rattle.chars.specs.declared.Answer.{Answer}
-use Rattle.tokens.specs.declared.Whole.TheVariants.{Fine, Refused}
 use Rattle.tokens.specs.Tokens.{whole_of, refusal, counted}
 use Rattle.rows.specs.Rows.{width}
 use Rattle.grammar.specs.Rows.{Row, flat}
@@ -21,11 +21,9 @@ use Rattle.answers.specs.Source.{source}
 use Rattle.answers.specs.Entries.{answer_for, table_for, Permitted, early, read}
 use Rattle.answers.proofs.Determined.{whole_number, accepted_reads}
 use Rattle.parser.specs.Going.{store}
-use Rattle.parser.proofs.Tables.{store_length}
 use Rattle.entry.specs.Puts as put
 use Rattle.entry.specs.Puts.{Puts}
-use Rattle.entry.proofs.Stored.{flat_length}
-use Rattle.sheets.specs.Places.{numbers_at, rows_from, rows_place, source_of, rows_of}
+use Rattle.sheets.specs.Places.{numbers_at, rows_from}
 use Rattle.sheets.specs.Matches.{Differ}
 use Rattle.sheets.specs.Checks.{WRONG_ROW, differing, Makes, room_for}
 use Rattle.sheets.specs.Steps as steps
@@ -65,8 +63,8 @@ made {s} {u} (put.refuses {r = r} e x) q =
     absurd (let y : ◌≡◌ {A = ℕ} 0 1 = ap sort z in omega (arith, y))
   where
     sort : grammar.Answer → ℕ
-    sort (accepted rs) = 1
-    sort (refused r) = 0
+    sort (accepted _) = 1
+    sort (refused _) = 0
 made (put.puts {rs = rs} e x) q = record { rows = rs; makes = record { fine = e; read = x }; answer = refl; table = refl }
 
 -- 1 to 9 and 11
@@ -75,18 +73,25 @@ refused_source own size t' (put.early e) n = steps.refused t' (early e) n
 refused_source {u = u} own size t' (put.refuses {r = r} e x) n = steps.refused t' (read {g = refused r} e x) n
 refused_source own size t' (put.puts e x) n = absurd (n refl)
 
-module _ (file t : List ℕ) (from rows most k : ℕ) (s t₁ t₂ : List ℕ) (a : Answer) (text : s ≡ source_of file from) (fits : most ≡ room_for (length t)) (least : (k ≤ rows) × (k ≤ most) × ((k ≡ rows) ⊎ (k ≡ most))) (loaded : t₁ ≡ numbers_at 8 file (rows_place from) (k * 7) ++ drop (k * 7) t) (read_by_lem : Against s t₁ (k * 7) a t₂) where
-  abbrev S : List ℕ
-  S = source_of file from
+min_is : (x y : ℕ) → (min x y ≤ x) × (min x y ≤ y) × ((min x y ≡ x) ⊎ (min x y ≡ y))
+min_is x y = go (leb x y) refl
+  where
+    go : (b : Bool) → leb x y ≡ b → (min x y ≤ x) × (min x y ≤ y) × ((min x y ≡ x) ⊎ (min x y ≡ y))
+    go true e = let h = leb-true x y e in (omega arith, omega arith, inl (omega (arith, h)))
+    go false e = let h = leb-false x y e in (omega arith, omega arith, inr (omega (arith, h)))
 
+module _ (file t : List ℕ) (rows most k : ℕ) (s t₁ t₂ : List ℕ) (a : Answer) (fits : most ≡ room_for (length t)) (chosen : k ≡ min rows most) (loaded : t₁ ≡ numbers_at 8 file 0 (k * 7) ++ drop (k * 7) t) (read_by_lem : Against s t₁ (k * 7) a t₂) where
   abbrev own : List Row
-  own = rows_of file from rows
+  own = rows_from (numbers_at 8 file 0 (rows * 7))
+
+  least : (k ≤ rows) × (k ≤ most) × ((k ≡ rows) ⊎ (k ≡ most))
+  least = subst (λ (x : ℕ). (x ≤ rows) × (x ≤ most) × ((x ≡ rows) ⊎ (x ≡ most))) (sym chosen) (min_is rows most)
 
   abbrev front : List Row
-  front = rows_from (numbers_at 8 file (rows_place from) (k * 7))
+  front = rows_from (numbers_at 8 file 0 (k * 7))
 
   abbrev rest : List Row
-  rest = rows_from (numbers_at 8 file (rows_place from + k * 7 * 8) ((rows - k) * 7))
+  rest = rows_from (numbers_at 8 file (0 + k * 7 * 8) ((rows - k) * 7))
 
   few : k ≤ rows
   few = least.0
@@ -94,11 +99,8 @@ module _ (file t : List ℕ) (from rows most k : ℕ) (s t₁ t₂ : List ℕ) (
   room : k ≤ most
   room = least.1
 
-  as_own : {x : Answer} {y : List ℕ} → Compared s own (length t) x y → Compared S own (length t) x y
-  as_own {x} {y} h = subst (λ (z : List ℕ). Compared z own (length t) x y) text h
-
-  pub source_refused : a.number ≢ 0 → Compared S own (length t) a t₂
-  source_refused n = as_own (refused_source own (length t) t₂ read_by_lem.puts n)
+  pub source_refused : a.number ≢ 0 → Compared s own (length t) a t₂
+  source_refused n = refused_source own (length t) t₂ read_by_lem.puts n
 
   module _ (good : a.number ≡ 0) where
     abbrev m : Made s (opened t₁ (k * 7)) a read_by_lem.part
@@ -113,26 +115,26 @@ module _ (file t : List ℕ) (from rows most k : ℕ) (s t₁ t₂ : List ℕ) (
     some : 1 ≤ length rs
     some = (walk_start (made_declares m.makes).1).3
 
-    pub no_room : most < a.count → Compared S own (length t) (record { number = 10; start = 0; end = 0; count = a.count }) t₂
+    pub no_room : most < a.count → Compared s own (length t) (record { number = 10; start = 0; end = 0; count = a.count }) t₂
     no_room h =
         let p : Permitted true true s (length t - 1) (counted (length s) (length rs) (room_for (length t))) (table_for (length t - 1) (accepted rs)) = read m.makes.fine m.makes.read in
         let e : counted (length s) (length rs) (room_for (length t)) ≡ record { number = 10; start = 0; end = 0; count = a.count } = ap (λ (b : Bool). cond {A = Answer} b (record { number = 0; start = 0; end = length s; count = length rs }) (record { number = 10; start = 0; end = 0; count = length rs })) (lt-leb (length rs) (room_for (length t)) (omega (arith, h, count, fits))) ∙ ap (λ (n : ℕ). record { number = 10; start = 0; end = 0; count = n }) (sym count) in
-        as_own (steps.refused t₂ (subst (λ (x : Answer). Permitted true true s (length t - 1) x (table_for (length t - 1) (accepted rs))) e p) λ z. absurd (omega (arith, z)))
+        steps.refused t₂ (subst (λ (x : Answer). Permitted true true s (length t - 1) x (table_for (length t - 1) (accepted rs))) e p) λ z. absurd (omega (arith, z))
 
     module _ (enough : a.count ≤ most) where
       pub word_there : k * 7 < length t
       word_there = omega (arith, enough, count, some, fits, room)
 
       l_front : length (flat front) ≡ k * 7
-      l_front = ap length flat_front ∙ numbers_length 8 file (rows_place from) (k * 7)
+      l_front = ap length flat_front ∙ numbers_length 8 file 0 (k * 7)
         where
-          flat_front : flat front ≡ numbers_at 8 file (rows_place from) (k * 7)
-          flat_front = flat_rows k (numbers_at 8 file (rows_place from) (k * 7)) (numbers_length 8 file (rows_place from) (k * 7))
+          flat_front : flat front ≡ numbers_at 8 file 0 (k * 7)
+          flat_front = flat_rows k (numbers_at 8 file 0 (k * 7)) (numbers_length 8 file 0 (k * 7))
 
       to_compare : opened t₁ (k * 7) ≡ flat front ++ (NONE ∷ [])
       to_compare =
-          let xs : List ℕ = numbers_at 8 file (rows_place from) (k * 7) in
-          let n = numbers_length 8 file (rows_place from) (k * 7) in
+          let xs : List ℕ = numbers_at 8 file 0 (k * 7) in
+          let n = numbers_length 8 file 0 (k * 7) in
           let d = length-drop (k * 7) t in
           let l : length t₁ ≡ length xs + length (drop (k * 7) t) = ap length loaded ∙ length-append xs (drop (k * 7) t) in
           let w = word_there in
@@ -150,20 +152,20 @@ module _ (file t : List ℕ) (from rows most k : ℕ) (s t₁ t₂ : List ℕ) (
 
       own_is : own ≡ front ++ rest
       own_is =
-          let xs : List ℕ = numbers_at 8 file (rows_place from) (k * 7) in
-          let ys : List ℕ = numbers_at 8 file (rows_place from + k * 7 * 8) ((rows - k) * 7) in
+          let xs : List ℕ = numbers_at 8 file 0 (k * 7) in
+          let ys : List ℕ = numbers_at 8 file (0 + k * 7 * 8) ((rows - k) * 7) in
           let n : rows * 7 ≡ k * 7 + (rows - k) * 7 = omega (arith, few) in
-          let f = flat_rows k xs (numbers_length 8 file (rows_place from) (k * 7)) in
-          let g = flat_rows (rows - k) ys (numbers_length 8 file (rows_place from + k * 7 * 8) ((rows - k) * 7)) in
-          ap (λ (j : ℕ). rows_from (numbers_at 8 file (rows_place from) j)) n
-          ∙ ap rows_from (numbers_add 8 file (rows_place from) (k * 7) ((rows - k) * 7) ∙ (λ j. sym f j ++ sym g j) ∙ sym (flat_append front rest))
+          let f = flat_rows k xs (numbers_length 8 file 0 (k * 7)) in
+          let g = flat_rows (rows - k) ys (numbers_length 8 file (0 + k * 7 * 8) ((rows - k) * 7)) in
+          ap (λ (j : ℕ). rows_from (numbers_at 8 file 0 j)) n
+          ∙ ap rows_from (numbers_add 8 file 0 (k * 7) ((rows - k) * 7) ∙ (λ j. sym f j ++ sym g j) ∙ sym (flat_append front rest))
           ∙ rows_flat (front ++ rest)
 
       front_count : length front ≡ k
-      front_count = rows_count k (numbers_at 8 file (rows_place from) (k * 7)) (numbers_length 8 file (rows_place from) (k * 7))
+      front_count = rows_count k (numbers_at 8 file 0 (k * 7)) (numbers_length 8 file 0 (k * 7))
 
       rest_count : length rest ≡ rows - k
-      rest_count = rows_count (rows - k) (numbers_at 8 file (rows_place from + k * 7 * 8) ((rows - k) * 7)) (numbers_length 8 file (rows_place from + k * 7 * 8) ((rows - k) * 7))
+      rest_count = rows_count (rows - k) (numbers_at 8 file (0 + k * 7 * 8) ((rows - k) * 7)) (numbers_length 8 file (0 + k * 7 * 8) ((rows - k) * 7))
 
       own_count : length own ≡ rows
       own_count = let l = length-append front rest in ap length own_is ∙ omega (arith, l, front_count, rest_count, few)
@@ -179,8 +181,8 @@ module _ (file t : List ℕ) (from rows most k : ℕ) (s t₁ t₂ : List ℕ) (
       rs_fit : length rs ≤ room_for (length t)
       rs_fit = omega (arith, enough, count, fits)
 
-      pub row_differs : get_or t₂ (k * 7) 0 < a.count → Compared S own (length t) (differing WRONG_ROW (get_or t₂ (k * 7) 0)) t₂
-      row_differs h = subst (λ (i : ℕ). Compared S own (length t) (differing WRONG_ROW i) t₂) (sym noted_is) (as_own (go note.2 (omega (arith, h, noted_is, count))))
+      pub row_differs : get_or t₂ (k * 7) 0 < a.count → Compared s own (length t) (differing WRONG_ROW (get_or t₂ (k * 7) 0)) t₂
+      row_differs h = subst (λ (i : ℕ). Compared s own (length t) (differing WRONG_ROW i) t₂) (sym noted_is) (go note.2 (omega (arith, h, noted_is, count)))
         where
           go : {d : ℕ} → Outcome 0 NONE front rs d → d < length rs → Compared s own (length t) (differing WRONG_ROW d) t₂
           go (all_same zs q) l = let f = made_few m.makes in absurd (omega (arith, f, l))
@@ -199,15 +201,15 @@ module _ (file t : List ℕ) (from rows most k : ℕ) (s t₁ t₂ : List ℕ) (
         behind_count : length rs + length all_there.0 ≡ rows
         behind_count = sym (length-append rs all_there.0) ∙ sym (ap length all_there.1) ∙ own_count
 
-        pub rows_many : a.count < rows → Compared S own (length t) (differing WRONG_ROW a.count) t₂
-        rows_many h = as_own (subst (λ (i : ℕ). Compared s own (length t) (differing WRONG_ROW i) t₂) (sym count) (wrong t₂ m.makes rs_fit (go all_there.0 all_there.1 (omega (arith, behind_count, h, count)))))
+        pub rows_many : a.count < rows → Compared s own (length t) (differing WRONG_ROW a.count) t₂
+        rows_many h = subst (λ (i : ℕ). Compared s own (length t) (differing WRONG_ROW i) t₂) (sym count) (wrong t₂ m.makes rs_fit (go all_there.0 all_there.1 (omega (arith, behind_count, h, count))))
           where
             go : (zs : List Row) → own ≡ rs ++ zs → 0 < length zs → Differ own rs (length rs)
             go [] e l = absurd (omega (arith, l))
             go (x ∷ zs) e l = subst (λ (y : List Row). Differ y rs (length rs)) (sym e) (behind_all rs x zs)
 
-        pub rows_right : rows ≤ a.count → Compared S own (length t) a t₂
-        rows_right h = as_own (go all_there.0 all_there.1 (omega (arith, behind_count, h, count)))
+        pub rows_right : rows ≤ a.count → Compared s own (length t) a t₂
+        rows_right h = go all_there.0 all_there.1 (omega (arith, behind_count, h, count))
           where
             whole : own ≡ rs → Compared s own (length t) a t₂
             whole e =
@@ -229,25 +231,13 @@ module _ (file t : List ℕ) (from rows most k : ℕ) (s t₁ t₂ : List ℕ) (
             go [] e l = whole (e ∙ append-nil rs)
             go (x ∷ zs) e l = absurd (omega (arith, l))
 
-pub sub_source : (n : ℕ) → 4 + n - 4 ≡ n
-sub_source n = omega arith
-
 pub ap_compared : {s : List ℕ} {own : List Row} {size : ℕ} {a b : Answer} {t : List ℕ} → b ≡ a → Compared s own size a t → Compared s own size b t
 ap_compared {s} {own} {size} {a} {b} {t} e h = subst (λ (x : Answer). Compared s own size x t) (sym e) h
 
--- no table changes its length
-pub puts_length : {s u : List ℕ} {a : Answer} {part : List ℕ} → Puts true s u a part → length part ≡ length u
-puts_length {u = u} (put.early e) = length-replicate (length u) 0
-puts_length {u = u} (put.refuses e x) = length-replicate (length u) 0
-puts_length {u = u} (put.puts {rs = rs} e x) = store_length u 0 rs
-
-pub against_length : {s : List ℕ} {a : Answer} {part : List ℕ} (t : List ℕ) (behind : ℕ) → Puts true s (take (behind + 1) (set t behind NONE)) a part → length (part ++ drop (behind + 1) (set t behind NONE)) ≡ length t
-against_length {part = part} t behind p = length_front (set t behind NONE) part (behind + 1) (puts_length p) ∙ length-set t behind NONE
-
 -- two answers of `put_rows` coincide, and so do the tables
 sort : grammar.Answer → ℕ
-sort (accepted rs) = 1
-sort (refused r) = 0
+sort (accepted _) = 1
+sort (refused _) = 0
 
 table_in : List ℕ → grammar.Answer → List ℕ
 table_in u (accepted rs) = store u 0 rs

@@ -1,12 +1,14 @@
 -- Runs of bytes stored one behind the other, and one before the other.
 use mathlib.Core.Path.{◌≡◌, refl, sym, ap, ◌∙◌}
 use mathlib.Core.List.{List, [], ◌∷◌, ◌++◌, append_assoc, append-nil}
-use mathlib.Core.Logic.{◌≢◌}
-use Prim.Native.Nat.{ℕ, zero, suc, ◌+◌, ◌-◌, ◌*◌, ◌/◌, ◌%◌, ◌≤◌, ◌<◌}
+use Prim.Native.Nat.{ℕ, suc, ◌+◌, ◌-◌, ◌*◌, ◌/◌, ◌%◌, ◌≤◌, ◌<◌}
 use native.Mathlib.Omega.{arith}
 use native.Mathlib.Nat.{suc-mul}
 use lib.ListN.{length, set, get_or, take, drop, replicate, length-append, length-set, length-drop}
-use lib.Seq.{set_comm, take-suc, sets, length-sets, sets-eq, take-nil}
+use lib.Seq.{set_comm, take-suc, sets, length-sets, sets-eq, take-nil, drop-drop}
+use borrow.Rule.Slice.PartMut.{put_mid}
+use Rattle.std.specs.Int.{w64, to_le_bytes}
+use Rattle.std.proofs.lemmas.List.{take-append-drop}
 use Rattle.rows.specs.Rows.{zeroed}
 use Rattle.grammar.specs.Rows.{flat}
 use Rattle.entry.proofs.Stored.{zeroed_behind, flat_length}
@@ -41,16 +43,7 @@ one_word : (w n : ℕ) → words w (n ∷ []) ≡ bytes w n
 unfolding words
 one_word w n = append-nil (bytes w n)
 
--- the loops: a byte more, a number more, an index before
-pub nothing_stored : (f s : List ℕ) (at : ℕ) → f ≡ sets f at (take 0 s)
-nothing_stored f [] at = refl
-nothing_stored f (x ∷ s) at = refl
-
-pub byte_more : (f s g : List ℕ) (at i : ℕ) → g ≡ sets f at (take i s) → i < length s → set g (at + i) (get_or s i 0) ≡ sets f at (take (i + 1) s)
-byte_more f s g at i e h =
-    let t = lib.Seq.length-take-le i s (omega arith) in
-    ap (λ (l : List ℕ). set l (at + i) (get_or s i 0)) e ∙ stored_behind f (take i s) (get_or s i 0 ∷ []) at (omega (arith, t)) ∙ ap (sets f at) (sym (ap (λ (n : ℕ). take n s) (native.Mathlib.Numerals.add-one i) ∙ take-suc s i 0 h))
-
+-- the loops: a number more, an index before
 pub no_words : (f t : List ℕ) (w at : ℕ) → f ≡ sets f at (words w (take 0 t))
 unfolding words
 no_words f [] w at = refl
@@ -65,13 +58,12 @@ number_more w f t g g' at i e h q =
     ∙ stored_behind f (words w (take i t)) (bytes w (get_or t i 0)) at (ap (λ (n : ℕ). at + n) k)
     ∙ ap (sets f at) (sym (ap (λ (n : ℕ). words w (take n t)) (native.Mathlib.Numerals.add-one i) ∙ ap (words w) (take-suc t i 0 h) ∙ words_append w (take i t) (get_or t i 0 ∷ []) ∙ ap (λ (x : List ℕ). words w (take i t) ++ x) (one_word w (get_or t i 0))))
 
-pub index_before : (w : ℕ) (f g g' : List ℕ) (at left n : ℕ) (rest : List ℕ) → 0 < left → g ≡ sets f (at + left * w) (words w rest) → g' ≡ sets g (at + (left - 1) * w) (bytes w n) → g' ≡ sets f (at + (left - 1) * w) (words w (n ∷ rest))
+pub index_before : (w : ℕ) (f g g' : List ℕ) (at left i n : ℕ) (rest : List ℕ) → suc i ≡ left → g ≡ sets f (at + left * w) (words w rest) → g' ≡ sets g (at + i * w) (bytes w n) → g' ≡ sets f (at + i * w) (words w (n ∷ rest))
 unfolding words
-index_before w f g g' at left n rest h e q =
+index_before w f g g' at left i n rest h e q =
     let l = bytes_length w n in
-    let k : left ≡ suc (left - 1) = omega arith in
-    let m : left * w ≡ (left - 1) * w + w = ap (λ (x : ℕ). x * w) k ∙ suc-mul (left - 1) w in
-    q ∙ ap (λ (x : List ℕ). sets x (at + (left - 1) * w) (bytes w n)) e ∙ stored_before f (bytes w n) (words w rest) (at + (left - 1) * w) (omega (arith, l, m))
+    let m : left * w ≡ i * w + w = ap (λ (x : ℕ). x * w) (sym h) ∙ suc-mul i w in
+    q ∙ ap (λ (x : List ℕ). sets x (at + i * w) (bytes w n)) e ∙ stored_before f (bytes w n) (words w rest) (at + i * w) (omega (arith, l, m))
 
 -- zeros behind what was stored first
 pub zeros_behind : (f xs : List ℕ) → length xs ≤ length f → zeroed (sets f 0 xs) (length xs) ≡ xs ++ replicate (length f - length xs) 0
@@ -80,27 +72,43 @@ zeros_behind f xs h =
     let z : 0 + length xs ≡ length xs = omega arith in
     ap (λ (l : List ℕ). zeroed l (length xs)) (sets-eq xs f 0 (omega (arith, h)) ∙ ap (λ (n : ℕ). xs ++ drop n f) z) ∙ zeroed_behind xs (drop (length xs) f) ∙ ap (λ (n : ℕ). xs ++ replicate n 0) d
 
--- the four bytes of a number, and the eight
-pub four_stored : (b : List ℕ) (at x : ℕ) → set (set (set (set b at (x % 256)) (at + 1) (x / 256 % 256)) (at + 2) (x / 256 / 256 % 256)) (at + 3) (x / 256 / 256 / 256 % 256) ≡ sets b at (bytes 4 x)
+-- zeros from a place on, as `fill` leaves them
+pub zeros_put : (f : List ℕ) (from k : ℕ) {ys : List ℕ} → ys ≡ replicate k 0 → from + k ≡ length f → put_mid from k f ys ≡ zeroed f from
+zeros_put f from k {ys} e l =
+    let d = length-drop from f in
+    let t = lib.Seq.length-take-le from f (omega (arith, l)) in
+    let n : length (drop from f) ≡ k = omega (arith, d, l) in
+    ap (put_mid from k f) e
+    ∙ ap (λ (x : List ℕ). take from f ++ (replicate k 0 ++ x)) (drop-drop k from f ∙ lib.ListN.drop_of_length-le f {i = from + k} (omega (arith, l)))
+    ∙ ap (λ (x : List ℕ). take from f ++ x) (append-nil (replicate k 0))
+    ∙ ap (λ (j : ℕ). take from f ++ replicate j 0) (sym n)
+    ∙ sym (zeroed_behind (take from f) (drop from f))
+    ∙ (λ i. zeroed (take-append-drop from f i) (t i))
+
+-- bytes that are put at a place, and those that std makes of a number
+pub part_put : (b part : List ℕ) (at k : ℕ) {ys : List ℕ} → ys ≡ part → length part ≡ k → at + k ≤ length b → put_mid at k b ys ≡ sets b at part
+part_put b part at k {ys} e l h = ap (put_mid at k b) e ∙ ap (λ (x : List ℕ). take at b ++ (part ++ x)) (drop-drop k at b ∙ ap (λ (n : ℕ). drop (at + n) b) (sym l)) ∙ sym (append_assoc (take at b) part (drop (at + length part) b)) ∙ sym (sets-eq part b at (omega (arith, l, h)))
+
+pub long_bytes : (x : ℕ) → to_le_bytes w64 x ≡ bytes 8 x
 unfolding bytes
-four_stored b at x =
-    let e₁ : at + 1 ≡ suc at = omega arith in
-    let e₂ : at + 2 ≡ suc (suc at) = omega arith in
-    let e₃ : at + 3 ≡ suc (suc (suc at)) = omega arith in
-    λ i. set (set (set (set b at (x % 256)) (e₁ i) (x / 256 % 256)) (e₂ i) (x / 256 / 256 % 256)) (e₃ i) (x / 256 / 256 / 256 % 256)
+long_bytes x =
+    let e₂ : x / 65536 ≡ x / 256 / 256 = omega arith in
+    let e₃ : x / 16777216 ≡ x / 256 / 256 / 256 = omega arith in
+    let e₄ : x / 4294967296 ≡ x / 256 / 256 / 256 / 256 = omega arith in
+    let e₅ : x / 1099511627776 ≡ x / 256 / 256 / 256 / 256 / 256 = omega arith in
+    let e₆ : x / 281474976710656 ≡ x / 256 / 256 / 256 / 256 / 256 / 256 = omega arith in
+    let e₇ : x / 72057594037927936 ≡ x / 256 / 256 / 256 / 256 / 256 / 256 / 256 = omega arith in
+    λ i. x % 256 ∷ x / 256 % 256 ∷ e₂ i % 256 ∷ e₃ i % 256 ∷ e₄ i % 256 ∷ e₅ i % 256 ∷ e₆ i % 256 ∷ e₇ i % 256 ∷ []
 
-halves : (x : ℕ) → bytes 8 x ≡ bytes 4 x ++ bytes 4 (x / 4294967296)
+pub short_bytes : (x : ℕ) → take 4 (to_le_bytes w64 x) ≡ bytes 4 x
 unfolding bytes
-halves x = let e : x / 256 / 256 / 256 / 256 ≡ x / 4294967296 = omega arith in ap (λ (y : ℕ). (x % 256) ∷ (x / 256 % 256) ∷ (x / 256 / 256 % 256) ∷ (x / 256 / 256 / 256 % 256) ∷ (y % 256) ∷ (y / 256 % 256) ∷ (y / 256 / 256 % 256) ∷ (y / 256 / 256 / 256 % 256) ∷ []) e
+short_bytes x =
+    let e₂ : x / 65536 ≡ x / 256 / 256 = omega arith in
+    let e₃ : x / 16777216 ≡ x / 256 / 256 / 256 = omega arith in
+    λ i. x % 256 ∷ x / 256 % 256 ∷ e₂ i % 256 ∷ e₃ i % 256 ∷ []
 
-pub eight_stored : (b g g' : List ℕ) (at x : ℕ) → g ≡ sets b at (bytes 4 x) → g' ≡ sets g (at + 4) (bytes 4 (x / 4294967296)) → g' ≡ sets b at (bytes 8 x)
-eight_stored b g g' at x e q = q ∙ ap (λ (l : List ℕ). sets l (at + 4) (bytes 4 (x / 4294967296))) e ∙ stored_behind b (bytes 4 x) (bytes 4 (x / 4294967296)) at (ap (λ (n : ℕ). at + n) (bytes_length 4 x)) ∙ ap (sets b at) (sym (halves x))
-
-pub same_count : (w : ℕ) (f t g : List ℕ) (at i count : ℕ) → g ≡ sets f at (words w (take i t)) → i ≤ count → count ≤ i → g ≡ sets f at (words w (take count t))
-same_count w f t g at i count e h k = let q : i ≡ count = omega arith in e ∙ ap (λ (n : ℕ). sets f at (words w (take n t))) q
-
-pub source_all : (f s g : List ℕ) (at i : ℕ) → g ≡ sets f at (take i s) → length s ≤ i → g ≡ sets f at s
-source_all f s g at i e h = e ∙ ap (sets f at) (lib.Seq.take_all i s h)
+pub all_words : (w : ℕ) (f t g : List ℕ) (at i : ℕ) → g ≡ sets f at (words w (take i t)) → length t ≤ i → g ≡ sets f at (words w t)
+all_words w f t g at i e h = e ∙ ap (λ (x : List ℕ). sets f at (words w x)) (lib.Seq.take_all i t h)
 
 pub put_longer : (w : ℕ) (g g' : List ℕ) (k x : ℕ) → g' ≡ sets g k (bytes w x) → length g' ≡ length g
 put_longer w g g' k x e = ap length e ∙ length-sets g k (bytes w x)

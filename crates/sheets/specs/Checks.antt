@@ -1,8 +1,7 @@
 -- C-21: "Say yes exactly when the rows are the table our reader makes for that source and the indexes name its declarations in order."
 -- The complete answer to a file of any bytes, and what then stands in a lent table of `size` numbers. `tests`: whether `test` is a declaration.
-use Rattle.std.specs.Prelude.{◌≡◌, List, [], ◌∷◌, ◌++◌, Bool, true, cond, ◌≢◌, ℕ, ◌+◌, ◌-◌, ◌*◌, ◌/◌, ◌≤◌, eqb, length, replicate}
+use Rattle.std.specs.Prelude.{Ok, ◌≡◌, List, [], ◌∷◌, ◌++◌, Bool, true, cond, ◌≢◌, ℕ, ◌+◌, ◌-◌, ◌*◌, ◌/◌, ◌≤◌, eqb, length, replicate}
 use Rattle.chars.specs.declared.Answer.{Answer}
-use Rattle.tokens.specs.declared.Whole.TheVariants.{Fine}
 use Rattle.tokens.specs.Tokens.{whole_of}
 use Rattle.rows.specs.Kinds as kinds
 use Rattle.rows.specs.Rows.{width}
@@ -45,7 +44,7 @@ accepting b rs = record { number = 0; start = 0; end = length b; count = length 
 
 -- The rows that our reader makes for a source.
 pub record Makes (tests : Bool) (s : List ℕ) (rs : List Row) : Type 0 where
-  pub fine : whole_of s ≡ Fine
+  pub fine : whole_of s ≡ (Ok tt)
   pub read : Answers (source s) tests true (length s) 0 (accepted rs)
 
 -- One number of the lent table stands behind the rows that are compared.

@@ -5,3 +5,4 @@ pub mod Writes
 pub mod Theorems
 pub mod Places
 pub mod Steps
+pub mod Walks

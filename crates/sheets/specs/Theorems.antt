@@ -1,7 +1,6 @@
 -- What the theorems of C-21 say. `tests`: whether `test` is a declaration.
-use Rattle.std.specs.Prelude.{◌≡◌, List, ◌++◌, Bool, true, ℕ, ◌-◌, ◌/◌, ◌≤◌, length, take, replicate}
+use Rattle.std.specs.Prelude.{Ok, ◌≡◌, List, ◌++◌, Bool, true, ℕ, ◌-◌, ◌/◌, ◌≤◌, length, take, replicate}
 use Rattle.chars.specs.declared.Answer.{Answer}
-use Rattle.tokens.specs.declared.Whole.TheVariants.{Fine}
 use Rattle.tokens.specs.Tokens.{whole_of}
 use Rattle.rows.specs.Rows.{width}
 use Rattle.grammar.specs.Grammar.{Parts}
@@ -17,7 +16,7 @@ pub record OfReading (tests : Bool) (b : List ℕ) : Type 0 where
   pub source : List ℕ
   pub parts : Parts
   pub indexes : List ℕ
-  pub fine : whole_of source ≡ Fine
+  pub fine : whole_of source ≡ (Ok tt)
   pub reading : Reading tests true source parts
   pub declares : Declares (rows_of true source parts) indexes
   pub fills : Fills b (file_for source (rows_of true source parts) indexes)

@@ -9,46 +9,49 @@ pub const SHORT: usize = 4;
 
 pub const LONG: usize = 8;
 
-// How many numbers four bytes have.
-const HALF: u64 = 4294967296;
-
-fn wide(x: u8) -> u64
-    ensures { (result ≡ x) × (result < 256) }
-{
-    x as u64
-}
-
-pub fn short_at(b: &[u8], at: usize) -> u64
+pub fn short_at(b: &[u8], at: usize) -> u32
     requires { at + 4 ≤ length b.now }
-    ensures { (result ≡ number_at 4 b.now at) × (result < 4294967296) }
+    ensures { result ≡ number_at 4 b.now at }
 {
-    wide(b[at]) + 256 * (wide(b[at + 1]) + 256 * (wide(b[at + 2]) + 256 * wide(b[at + 3])))
+    u32::from_le_bytes([b[at], b[at + 1], b[at + 2], b[at + 3]])
 }
 
 pub fn long_at(b: &[u8], at: usize) -> u64
     requires { at + 8 ≤ length b.now }
     ensures { result ≡ number_at 8 b.now at }
 {
-    let low = short_at(b, at);
-    let high = short_at(b, at + SHORT);
-    low + HALF * high
+    u64::from_le_bytes([
+        b[at],
+        b[at + 1],
+        b[at + 2],
+        b[at + 3],
+        b[at + 4],
+        b[at + 5],
+        b[at + 6],
+        b[at + 7],
+    ])
 }
 
-// The low four bytes of a number.
-pub fn put_short(b: &mut [u8], at: usize, x: u64)
-    requires { at + 4 ≤ length b.old }
-    ensures { b.new ≡ sets b.old at (bytes 4 x) }
+// Some bytes at a place.
+pub fn put(b: &mut [u8], at: usize, part: &[u8])
+    requires { at + length part.now ≤ length b.old }
+    ensures { b.new ≡ sets b.old at part.now }
 {
-    b[at] = (x % 256) as u8;
-    b[at + 1] = (x / 256 % 256) as u8;
-    b[at + 2] = (x / 256 / 256 % 256) as u8;
-    b[at + 3] = (x / 256 / 256 / 256 % 256) as u8;
+    let end = at + part.len();
+    b[at..end].copy_from_slice(part);
 }
 
 pub fn put_long(b: &mut [u8], at: usize, x: u64)
     requires { at + 8 ≤ length b.old }
     ensures { b.new ≡ sets b.old at (bytes 8 x) }
 {
-    put_short(b, at, x);
-    put_short(b, at + SHORT, x / HALF);
+    put(b, at, &x.to_le_bytes());
+}
+
+// The low four bytes of a number.
+pub fn put_short(b: &mut [u8], at: usize, x: usize)
+    requires { at + 4 ≤ length b.old }
+    ensures { b.new ≡ sets b.old at (bytes 4 x) }
+{
+    put(b, at, &x.to_le_bytes()[..SHORT]);
 }

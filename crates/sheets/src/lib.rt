@@ -1,22 +1,26 @@
 // Tables from other tools: a file of a source, its rows and the rows of its declarations by index; checked, and written.
 #![tactic(auto)]
 
-ghost use Rattle.std.specs.Prelude.{◌≡◌, List, ◌++◌, true, false, ◌&&◌, ◌⊎◌, ℕ, ◌+◌, ◌*◌, ◌≤◌, ◌<◌, ltb, eqb, length, take, drop};
+ghost use Rattle.std.specs.Prelude.{◌≡◌, ◌≢◌, List, ◌++◌, true, false, ◌&&◌, ℕ, ◌+◌, ◌*◌, ◌/◌, ◌≤◌, ◌<◌, ltb, eqb, length, take, drop, MatchOption};
+ghost use Rattle.std.specs.Bool.{then_some};
 ghost use Rattle.std.proofs.lemmas.List.Edits.{sets};
 ghost use Rattle.rows.specs.Kinds.{TEST};
 ghost use Rattle.rows.specs.Rows.{width, zeroed};
 ghost use Rattle.grammar.specs.Rows.{Row, flat};
 ghost use Rattle.sheets.specs.Files.{words, written};
-ghost use Rattle.sheets.specs.Places.{number_at, numbers_at, rows_place, indexes_place, source_of, rows_of};
+ghost use Rattle.sheets.specs.Places.{number_at, numbers_at, indexes_place, filled};
 ghost use Rattle.sheets.specs.Checks.{differing, refusing, of_kind, room_for, Checks};
 ghost use Rattle.sheets.specs.Writes.{file_for, sized, Writes};
-ghost use Rattle.sheets.specs.Steps.{PartsAre, NONE, Against, Compared, Tabled, First};
+ghost use Rattle.sheets.specs.Steps.{placeless, Section, Parsed, rows_in, indexes_in, NONE, Against, Compared, First};
+ghost use Rattle.sheets.specs.Walks.{Tabled};
 
 use chars::{Answer, refusal};
-use endian::{LONG, SHORT, long_at, put_long, put_short, short_at};
+use declarations::Declarations;
+use endian::{LONG, SHORT, long_at, put, put_long, put_short, short_at};
 use reader::entries;
 use rows::{WIDTH, kind};
 
+mod declarations;
 mod endian;
 
 // The sections don't fill the file exactly.
@@ -28,23 +32,23 @@ pub const WRONG_ROW: u64 = 18;
 // The first such index.
 pub const WRONG_INDEX: u64 = 19;
 
-// No row or index differs.
-const NONE: u64 = 18446744073709551615;
+// No row differs, behind the rows of a table to compare with.
+// kept: a number and no Option, since it stands in the lent table, and `rows::put` lowers what stands there.
+const NONE: u64 = u64::MAX;
 
-// Where a row has the number of its children, and its size; its kind comes first.
-const CHILDREN: usize = 3;
+// The bytes of a row in a file.
+const ROW: usize = WIDTH * LONG;
 
-const SIZE: usize = 6;
-
-// The counts of a file's sections: bytes of the source, rows, indexes.
+// The sections of a file: its source, the numbers of its rows, and its indexes.
 #[derive(Clone, Copy)]
-pub enum Parts {
-    Filled(usize, usize, usize),
-    Unfilled,
+pub struct Sections<'a> {
+    pub source: &'a [u8],
+    pub rows: &'a [u8],
+    pub indexes: &'a [u8],
 }
 
 // The answer to a file: number, place, how many rows, and how many of them are tests.
-#[derive(Clone, Copy)]
+#[derive(Clone, Copy, Debug, PartialEq, Eq)]
 pub struct Checked {
     pub number: u64,
     pub start: usize,
@@ -53,39 +57,40 @@ pub struct Checked {
     pub tests: usize,
 }
 
-// Three counts, each with what it counts behind it, and nothing more.
-fn sections(file: &[u8]) -> Parts
-    ensures { PartsAre file.now result }
+// What a section has behind its count, of so many bytes each, and what is behind the section.
+fn section(file: &[u8], unit: usize) -> Option<(&[u8], &[u8])>
+    requires { unit ≤ 56 }
+    ensures { MatchOption result (length file.now < 4 + number_at 4 file.now 0 * unit) (λ p. Section file.now unit p.0.now p.1.now) }
 {
-    let size = file.len();
-    if size < SHORT {
-        return Parts::Unfilled;
-    }
-    let source = short_at(file, 0) as usize;
-    if size < SHORT + source + SHORT {
-        return Parts::Unfilled;
-    }
-    let rows = short_at(file, SHORT + source) as usize;
-    let behind = SHORT + source + SHORT + rows * WIDTH * LONG;
-    if size < behind + SHORT {
-        return Parts::Unfilled;
-    }
-    let indexes = short_at(file, behind) as usize;
-    if size != behind + SHORT + indexes * SHORT {
-        return Parts::Unfilled;
-    }
-    Parts::Filled(source, rows, indexes)
+    let (count, behind) = file.split_first_chunk()?;
+    behind.split_at_checked(u32::from_le_bytes(*count) as usize * unit)
 }
 
-// The numbers of rows, from a place of the file on, first in the table.
-fn load(file: &[u8], at: usize, table: &mut [u64], count: usize)
-    requires { (count ≤ length table.old) × (at + count * 8 ≤ length file.now) }
-    ensures { table.new ≡ numbers_at 8 file.now at count ++ drop count table.old }
+// Three sections, and nothing more.
+fn parse(file: &[u8]) -> Option<Sections<'_>>
+    ensures { MatchOption result (length file.now ≢ filled file.now) (λ p. Parsed file.now p.source.now p.rows.now p.indexes.now) }
 {
-    let mut i = 0;
-    while i < count {
-        table[i] = long_at(file, at + i * LONG);
-        i += 1;
+    let (source, behind) = section(file, 1)?;
+    let (rows, behind) = section(behind, ROW)?;
+    let (indexes, behind) = section(behind, SHORT)?;
+    if !behind.is_empty() {
+        return None;
+    }
+    Some(Sections {
+        source,
+        rows,
+        indexes,
+    })
+}
+
+// So many of a file's numbers, first in the table.
+// kept: no plainer as a zip of chunks, since a chunk is a slice, and a number is made of an array.
+fn load(numbers: &[u8], table: &mut [u64], count: usize)
+    requires { (count ≤ length table.old) × (count * 8 ≤ length numbers.now) }
+    ensures { table.new ≡ numbers_at 8 numbers.now 0 count ++ drop count table.old }
+{
+    for i in 0..count {
+        table[i] = long_at(numbers, i * LONG);
     }
 }
 
@@ -93,19 +98,7 @@ fn load(file: &[u8], at: usize, table: &mut [u64], count: usize)
 fn room(table: &[u64]) -> usize
     ensures { result ≡ room_for (length table.now) }
 {
-    if table.len() == 0 {
-        return 0;
-    }
-    (table.len() - 1) / WIDTH
-}
-
-fn least(a: usize, b: usize) -> usize
-    ensures { (result ≤ a) × (result ≤ b) × ((result ≡ a) ⊎ (result ≡ b)) }
-{
-    if a < b {
-        return a;
-    }
-    b
+    table.len().saturating_sub(1) / WIDTH
 }
 
 // Reads a source against the first rows of the table: the number behind them becomes the first row that differs.
@@ -121,6 +114,18 @@ fn against(source: &[u8], table: &mut [u64], behind: usize) -> Answer
     entries::put_rows(source, &mut table[..behind])
 }
 
+// A refusal that has no place.
+fn nowhere(number: u64, count: usize) -> Answer
+    ensures { result ≡ placeless number count }
+{
+    Answer {
+        number,
+        start: 0,
+        end: 0,
+        count,
+    }
+}
+
 fn differs(number: u64, i: usize) -> Answer
     requires { i < NONE }
     ensures { result ≡ differing number i }
@@ -133,73 +138,55 @@ fn differs(number: u64, i: usize) -> Answer
     }
 }
 
-// The answer of (a) to the file's source, or 18: the file's rows are loaded into the table, and the reader compares as it goes.
-fn compare(file: &[u8], table: &mut [u64], source: usize, rows: usize) -> Answer
-    requires { rows_place source + rows * 56 ≤ length file.now }
-    ensures { Compared (source_of file.now source) (rows_of file.now source rows) (length table.old) result table.new }
+// The answer of (a) to a source, or 18: a file's rows are loaded into the table, and the reader compares as it goes.
+fn compare(source: &[u8], rows: &[u8], table: &mut [u64]) -> Answer
+    ensures { Compared source.now (rows_in rows.now) (length table.old) result table.new }
 {
+    let count = rows.len() / ROW;
     let most = room(table);
-    let behind = least(rows, most) * WIDTH;
-    load(file, SHORT + source + SHORT, table, behind);
-    let end = SHORT + source;
-    let read = against(&file[SHORT..end], table, behind);
+    let behind = count.min(most) * WIDTH;
+    load(rows, table, behind);
+    let read = against(source, table, behind);
     if read.number != refusal::NONE {
         return read;
     }
     if most < read.count {
-        return Answer {
-            number: refusal::NO_ROOM,
-            start: 0,
-            end: 0,
-            count: read.count,
-        };
+        return nowhere(refusal::NO_ROOM, read.count);
     }
     let first = table[behind] as usize;
     if first < read.count {
         return differs(WRONG_ROW, first);
     }
-    if read.count < rows {
+    if read.count < count {
         return differs(WRONG_ROW, read.count);
     }
     read
 }
 
-// Whether index i of the file is there and is this row.
-fn names(file: &[u8], at: usize, indexes: usize, i: usize, row: usize) -> bool
-    requires { at + indexes * 4 ≤ length file.now }
-    ensures { result ≡ ltb i indexes && eqb (number_at 4 file.now (at + i * 4)) row }
+// Whether an index is there and is this row.
+fn names(indexes: &[u8], i: usize, row: usize) -> bool
+    ensures { result ≡ ltb i (length indexes.now / 4) && eqb (number_at 4 indexes.now (i * 4)) row }
 {
-    if i < indexes {
-        return short_at(file, at + i * SHORT) == row as u64;
-    }
-    false
+    i < indexes.len() / SHORT && short_at(indexes, i * SHORT) as usize == row
 }
 
 // The first index that is too many.
-fn surplus(declared: usize, indexes: usize) -> u64
-    ensures { ((declared < indexes) × (result ≡ declared)) ⊎ ((indexes ≤ declared) × (result ≡ NONE)) }
+fn surplus(declared: usize, indexes: usize) -> Option<usize>
+    ensures { result ≡ then_some (ltb declared indexes) declared }
 {
-    if declared < indexes {
-        return declared as u64;
-    }
-    NONE
+    (declared < indexes).then_some(declared)
 }
 
-// The first index that doesn't name its declaration, is missing or is too many. The declarations are the children of the last row: from the last one
-// back, each stands right before the subtree of the next.
-fn misnamed(file: &[u8], at: usize, indexes: usize, table: &[u64], rows: usize) -> u64
-    requires { (at + indexes * 4 ≤ length file.now) × Tabled table.now rows }
-    ensures { (d : Tabled table.now rows) → First (numbers_at 4 file.now at indexes) d.ids result }
+// The first index that doesn't name its declaration, is missing or is too many.
+fn misnamed(indexes: &[u8], table: &[u64], rows: usize) -> Option<usize>
+    requires { Tabled table.now rows }
+    ensures { (d : Tabled table.now rows) → First (indexes_in indexes.now) d.ids result }
 {
-    let mut row = rows - 1;
-    let mut left = table[row * WIDTH + CHILDREN] as usize;
-    let mut first = surplus(left, indexes);
-    while 0 < left {
-        let child = row - 1;
-        left -= 1;
-        row -= table[child * WIDTH + SIZE] as usize;
-        if !names(file, at, indexes, left, child) {
-            first = left as u64;
+    let declarations = Declarations::of(table, rows);
+    let mut first = surplus(declarations.left, indexes.len() / SHORT);
+    for (i, row) in declarations {
+        if !names(indexes, i, row) {
+            first = Some(i);
         }
     }
     first
@@ -210,11 +197,10 @@ fn tests(table: &[u64], rows: usize) -> usize
     requires { rows * width ≤ length table.now }
     ensures { (rs : List Row) (zs : List ℕ) → table.now ≡ flat rs ++ zs → length rs ≡ rows → result ≡ of_kind TEST rs }
 {
+    // kept: no chain, since `filter(..).count()` over the rows proved no more than a bound.
     let mut count = 0;
-    let mut left = rows;
-    while 0 < left {
-        left -= 1;
-        if table[left * WIDTH] == kind::TEST {
+    for row in 0..rows {
+        if table[row * WIDTH] == kind::TEST {
             count += 1;
         }
     }
@@ -240,25 +226,16 @@ fn refused(table: &mut [u64], a: Answer) -> Checked
 pub fn check(file: &[u8], table: &mut [u64]) -> Checked
     ensures { Checks true file.now (length table.old) result table.new }
 {
-    let Parts::Filled(source, rows, indexes) = sections(file) else {
-        return refused(
-            table,
-            Answer {
-                number: UNFILLED,
-                start: 0,
-                end: 0,
-                count: 0,
-            },
-        );
+    let Some(parts) = parse(file) else {
+        return refused(table, nowhere(UNFILLED, 0));
     };
-    let a = compare(file, table, source, rows);
+    let a = compare(parts.source, parts.rows, table);
     if a.number != refusal::NONE {
         return refused(table, a);
     }
-    let at = SHORT + source + SHORT + rows * WIDTH * LONG + SHORT;
-    let first = misnamed(file, at, indexes, table, rows);
-    if first != NONE {
-        return refused(table, differs(WRONG_INDEX, first as usize));
+    let rows = a.count;
+    if let Some(first) = misnamed(parts.indexes, table, rows) {
+        return refused(table, differs(WRONG_INDEX, first));
     }
     rows::clear(table, rows * WIDTH);
     Checked {
@@ -272,34 +249,18 @@ pub fn check(file: &[u8], table: &mut [u64]) -> Checked
 
 // Zeros from a place on.
 fn clear(file: &mut [u8], from: usize)
+    requires { from ≤ length file.old }
     ensures { file.new ≡ zeroed file.old from }
 {
-    let mut i = from;
-    while i < file.len() {
-        file[i] = 0;
-        i += 1;
-    }
+    file[from..].fill(0);
 }
 
-fn put_source(s: &[u8], file: &mut [u8], at: usize)
-    requires { at + length s.now ≤ length file.old }
-    ensures { file.new ≡ sets file.old at s.now }
+fn put_rows(numbers: &[u64], file: &mut [u8], at: usize)
+    requires { at + length numbers.now * 8 ≤ length file.old }
+    ensures { file.new ≡ sets file.old at (words 8 numbers.now) }
 {
-    let mut i = 0;
-    while i < s.len() {
-        file[at + i] = s[i];
-        i += 1;
-    }
-}
-
-fn put_rows(table: &[u64], count: usize, file: &mut [u8], at: usize)
-    requires { (count ≤ length table.now) × (at + count * 8 ≤ length file.old) }
-    ensures { file.new ≡ sets file.old at (words 8 (take count table.now)) }
-{
-    let mut i = 0;
-    while i < count {
-        put_long(file, at + i * LONG, table[i]);
-        i += 1;
+    for i in 0..numbers.len() {
+        put_long(file, at + i * LONG, numbers[i]);
     }
 }
 
@@ -308,13 +269,8 @@ fn put_indexes(table: &[u64], rows: usize, file: &mut [u8], at: usize)
     requires { (d : Tabled table.now rows) × (at + length d.ids * 4 ≤ length file.old) }
     ensures { (d : Tabled table.now rows) → file.new ≡ sets file.old at (words 4 d.ids) }
 {
-    let mut row = rows - 1;
-    let mut left = table[row * WIDTH + CHILDREN] as usize;
-    while 0 < left {
-        let child = row - 1;
-        left -= 1;
-        row -= table[child * WIDTH + SIZE] as usize;
-        put_short(file, at + left * SHORT, child as u64);
+    for (i, row) in Declarations::of(table, rows) {
+        put_short(file, at + i * SHORT, row);
     }
 }
 
@@ -324,12 +280,12 @@ fn put_sections(s: &[u8], table: &[u64], rows: usize, indexes: usize, file: &mut
     ensures { (d : Tabled table.now rows) → file.new ≡ zeroed (sets file.old 0 (written (file_for s.now d.rows d.ids))) (sized s.now d.rows d.ids) }
 {
     let source = SHORT + s.len();
-    let behind = source + SHORT + rows * WIDTH * LONG;
-    put_short(file, 0, s.len() as u64);
-    put_source(s, file, SHORT);
-    put_short(file, source, rows as u64);
-    put_rows(table, rows * WIDTH, file, source + SHORT);
-    put_short(file, behind, indexes as u64);
+    let behind = source + SHORT + rows * ROW;
+    put_short(file, 0, s.len());
+    put(file, SHORT, s);
+    put_short(file, source, rows);
+    put_rows(&table[..rows * WIDTH], file, source + SHORT);
+    put_short(file, behind, indexes);
     put_indexes(table, rows, file, behind + SHORT);
     clear(file, behind + SHORT + indexes * SHORT);
 }
@@ -344,17 +300,12 @@ pub fn write(s: &[u8], table: &mut [u64], file: &mut [u8]) -> Answer
         return a;
     }
     let rows = a.count;
-    let indexes = table[(rows - 1) * WIDTH + CHILDREN] as usize;
-    let need = SHORT + s.len() + SHORT + rows * WIDTH * LONG + SHORT + indexes * SHORT;
+    let indexes = Declarations::of(table, rows).left;
+    let need = SHORT + s.len() + SHORT + rows * ROW + SHORT + indexes * SHORT;
     if file.len() < need {
         rows::clear(table, 0);
         clear(file, 0);
-        return Answer {
-            number: refusal::NO_ROOM,
-            start: 0,
-            end: 0,
-            count: need,
-        };
+        return nowhere(refusal::NO_ROOM, need);
     }
     put_sections(s, table, rows, indexes, file);
     Answer {

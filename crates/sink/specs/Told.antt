@@ -45,11 +45,14 @@ state t x = record { text = t; sink = x }
 abbrev pub empty : Sink
 empty = record { at = 0; gap = false; row = 0 }
 
--- a token more
+-- a token more: its text, whether a line ends behind it, whether it is a prefix word
+abbrev pub token : Told → List ℕ → Bool → Bool → Told
+token x t line prefix =
+    let y = fed (fed (fed (written x.text x.sink.at) (blank x.sink.gap)) t) (newline line) in
+    state y.text (record { at = y.at; gap = not line; row = row_behind x.sink.row prefix })
+
 unfoldable pub tell : Told → Bit → Told
-tell x b =
-    let y = fed (fed (fed (written x.text x.sink.at) (blank x.sink.gap)) (spelling b)) (newline (ends_line b)) in
-    state y.text (record { at = y.at; gap = not (ends_line b); row = row_behind x.sink.row (is_prefix b) })
+tell x b = token x (spelling b) (ends_line b) (is_prefix b)
 
 unfoldable pub telling : Told → List Bit → Told
 telling x [] = x
@@ -62,11 +65,6 @@ digit (suc w) = sign w ∷ []
 
 abbrev pub said : ℕ → List Bit
 said n = digit (n % 128) ++ (digit (n / 128 % 128) ++ digit (n / 16384 % 128))
-
--- the same, digit by digit
-unfoldable pub saying : ℕ → ℕ → List Bit
-saying zero n = []
-saying (suc k) n = digit (n % 128) ++ saying k (n / 128)
 
 -- the first n bytes of a list, zeros where it has ended; its length, as far as it is counted
 unfoldable pub padded : ℕ → List ℕ → List ℕ

@@ -1,4 +1,5 @@
 -- Where the inside of a string holds, the first quote that no backslash escapes is the one behind it.
+use Rattle.std.specs.Prelude.{Some, None}
 use mathlib.Core.Path.{◌≡◌, refl, sym, ap, ap₂, ◌∙◌, subst}
 use Prim.Native.Nat.{ℕ, zero, suc, ◌+◌, ◌-◌, ◌*◌, ◌<◌, ◌≤◌}
 use mathlib.Core.List.{List, [], ◌∷◌, ◌++◌, map, append_assoc}
@@ -13,14 +14,14 @@ use borrow.Author.Tests.{eq-eqb, ne_eqb, eqb-true, eqb-false, ltb-true, not-true
 use Rattle.chars.specs.Chars.{byte_at}
 use Rattle.chars.proofs.Runs.{byte_in, within}
 use Rattle.numbers.specs.declared.Base.{Base}
-use Rattle.numbers.specs.declared.Number.{Number}
+use Rattle.numbers.specs.Results.{Number}
 use Rattle.numbers.specs.Digits.{digit_of, all_below, plain, number_of}
 use Rattle.numbers.specs.Texts.{until_byte}
 use Rattle.numbers.proofs.Choices.{second, and_left, and_right}
 use Rattle.numbers.proofs.Digits.{number_says}
 use Rattle.chars.proofs.Texts.{part_slice}
 use Rattle.numbers.proofs.Texts.{until_ge}
-use Rattle.strings.specs.declared.Piece.{Piece}
+use Rattle.strings.specs.Results.{Piece}
 use Rattle.strings.specs.Escapes.{is_bare, simple_of, is_scalar, ascii_of, scalar_of, unicode_of, plain_escape, escape_of, piece_of}
 use Rattle.strings.specs.Strings.{after, codes_of, open_for}
 use Rattle.strings.proofs.Escapes.{Sound, piece_is, below_two, unclosed, closed, past_digit, past_escape_lem}
@@ -75,8 +76,8 @@ abbrev Passes : List ℕ → ℕ → Type 0
 Passes l n = (r : List ℕ) → open_for false (l ++ r) ≡ n + open_for false (drop n l ++ r)
 
 abbrev Passing : List ℕ → Piece → Type 0
-Passing l (Piece.Is c n) = Passes l n
-Passing l Piece.None = Unit {0}
+Passing l (Some (c, n)) = Passes l n
+Passing l None = Unit {0}
 
 -- a backslash, the byte behind it, and clean bytes
 behind : (l : List ℕ) (m : ℕ) → byte_at l 0 ≡ 92 → 2 + m ≤ length l → Clean (take m (drop 2 l)) → Passes l (2 + m)
@@ -108,7 +109,7 @@ module _ (l : List ℕ) (back : byte_at l 0 ≡ 92) where
   unfolding ascii_of
   ascii_passes = go (ltb (digit_of (byte_at l 2)) 8 && ltb (digit_of (byte_at l 3)) 16) refl
     where
-      go : (u : Bool) → (ltb (digit_of (byte_at l 2)) 8 && ltb (digit_of (byte_at l 3)) 16) ≡ u → Passing l (cond u (Piece.Is (digit_of (byte_at l 2) * 16 + digit_of (byte_at l 3)) 4) Piece.None)
+      go : (u : Bool) → (ltb (digit_of (byte_at l 2)) 8 && ltb (digit_of (byte_at l 3)) 16) ≡ u → Passing l (cond u (Some (digit_of (byte_at l 2) * 16 + digit_of (byte_at l 3), 4)) None)
       go true e =
           let b : (digit_of (byte_at l 2) < 8) × (digit_of (byte_at l 3) < 16) = below_two {h = digit_of (byte_at l 2)} {l = digit_of (byte_at l 3)} {m = 8} {n = 16} e in
           let i : 3 < length l = within (λ n. ltb (digit_of n) 16) past_digit l 3 (and_right (ltb (digit_of (byte_at l 2)) 8) (ltb (digit_of (byte_at l 3)) 16) e) in
@@ -136,20 +137,20 @@ module _ (l : List ℕ) (back : byte_at l 0 ≡ 92) where
   unicode_passes = go (eqb (byte_at l 2) 123) (unclosed (byte_at l (until_byte 125 l 3)) (byte_at l 3)) refl refl
     where
       scalar : (n : Number) → number_of Base.Sixteen 1114111 (plain true (slice 3 (until_byte 125 l 3) l)) ≡ n → eqb (byte_at l 2) 123 ≡ true → unclosed (byte_at l (until_byte 125 l 3)) (byte_at l 3) ≡ false → Passing l (scalar_of n (until_byte 125 l 3 + 1))
-      scalar (Number.Is v d) q f g = pick (leb d 6 && is_scalar v)
+      scalar (Some (v, d)) q f g = pick (leb d 6 && is_scalar v)
         where
           y : byte_at l (until_byte 125 l 3) ≡ 125
           y = closed (byte_at l (until_byte 125 l 3)) (byte_at l 3) g
 
-          pick : (u : Bool) → Passing l (cond u (Piece.Is v (until_byte 125 l 3 + 1)) Piece.None)
+          pick : (u : Bool) → Passing l (cond u (Some (v, until_byte 125 l 3 + 1)) None)
           pick true =
               braced (until_byte 125 l 3) (until_ge 125 l 3) (within (λ n. eqb n 125) refl l (until_byte 125 l 3) (eq-eqb _ _ y)) (eqb-true (byte_at l 2) 123 f) y
               (clean_digits (slice 3 (until_byte 125 l 3) l) (number_says Base.Sixteen 1114111 (plain true (slice 3 (until_byte 125 l 3) l)) q).digits)
           pick false = tt
-      scalar Number.None q f g = tt
+      scalar None q f g = tt
 
       go : (u v : Bool) → eqb (byte_at l 2) 123 ≡ u → unclosed (byte_at l (until_byte 125 l 3)) (byte_at l 3) ≡ v
-          → Passing l (cond u (cond v Piece.None (scalar_of (number_of Base.Sixteen 1114111 (plain true (slice 3 (until_byte 125 l 3) l))) (until_byte 125 l 3 + 1))) Piece.None)
+          → Passing l (cond u (cond v None (scalar_of (number_of Base.Sixteen 1114111 (plain true (slice 3 (until_byte 125 l 3) l))) (until_byte 125 l 3 + 1))) None)
       go true true f g = tt
       go true false f g = scalar (number_of Base.Sixteen 1114111 (plain true (slice 3 (until_byte 125 l 3) l))) refl f g
       go false v f g = tt
@@ -158,7 +159,7 @@ module _ (l : List ℕ) (back : byte_at l 0 ≡ 92) where
   unfolding plain_escape
   plain_passes = go (eqb (simple_of (byte_at l 1)) 256) refl
     where
-      go : (u : Bool) → eqb (simple_of (byte_at l 1)) 256 ≡ u → Passing l (cond u Piece.None (Piece.Is (simple_of (byte_at l 1)) 2))
+      go : (u : Bool) → eqb (simple_of (byte_at l 1)) 256 ≡ u → Passing l (cond u None (Some (simple_of (byte_at l 1), 2)))
       go true e = tt
       go false e = behind l 0 back (within (λ n. not (eqb (simple_of n) 256)) past_escape_lem l 1 (ap not e)) tt
 
@@ -190,7 +191,7 @@ piece_passes : (l : List ℕ) → 0 < length l → Passing l (piece_of 34 l)
 unfolding piece_of
 piece_passes l h = go (eqb (byte_at l 0) 92) (is_bare 34 (byte_at l 0)) refl refl
   where
-    go : (u v : Bool) → eqb (byte_at l 0) 92 ≡ u → is_bare 34 (byte_at l 0) ≡ v → Passing l (cond u (escape_of l) (cond v (Piece.Is (byte_at l 0) 1) Piece.None))
+    go : (u v : Bool) → eqb (byte_at l 0) 92 ≡ u → is_bare 34 (byte_at l 0) ≡ v → Passing l (cond u (escape_of l) (cond v (Some (byte_at l 0, 1)) None))
     go true v e f = escape_passes l (eqb-true _ _ e)
     go false true e f = bare_passes l h f
     go false false e f = tt
@@ -210,13 +211,13 @@ longer m ih [] cs h e = refl
 longer m ih (b ∷ l) cs h e = go (piece_of 34 (b ∷ l)) refl (piece_passes (b ∷ l) (omega arith))
   where
     go : (p : Piece) → piece_of 34 (b ∷ l) ≡ p → Passing (b ∷ l) p → open_for false ((b ∷ l) ++ 34 ∷ []) ≡ length (b ∷ l)
-    go (Piece.Is c n) f pass =
+    go (Some (c, n)) f pass =
         let s : Sound (b ∷ l) c n = piece_is (b ∷ l) 34 refl f in
         let r : (ds : List ℕ) × (codes_of (drop n (b ∷ l)) ≡ some ds) = after_some c (codes_of (drop n (b ∷ l))) (sym (codes_more (b ∷ l) (omega arith) s.some f) ∙ e) in
         let k : length (drop n (b ∷ l)) ≡ length (b ∷ l) - n = length-drop n (b ∷ l) in
         let i : open_for false (drop n (b ∷ l) ++ 34 ∷ []) ≡ length (drop n (b ∷ l)) = ih (drop n (b ∷ l)) r.0 (omega (arith, h, k, s.some)) r.1 in
         pass (34 ∷ []) ∙ omega (arith, i, k, s.inside)
-    go Piece.None f pass = let z : ◌≡◌ {A = ℕ} 0 1 = cc (codes_none (b ∷ l) (omega arith) f) in absurd (omega arith)
+    go None f pass = let z : ◌≡◌ {A = ℕ} 0 1 = cc (codes_none (b ∷ l) (omega arith) f) in absurd (omega arith)
 
 nothing_left : Shorter 0
 unfolding open_for

@@ -1,4 +1,5 @@
 -- One character, from the tests on the way; and what is known of it.
+use Rattle.std.specs.Prelude.{Some, None}
 use mathlib.Core.Path.{◌≡◌, refl, sym, ap, ◌∙◌, subst}
 use Prim.Native.Nat.{ℕ, ◌+◌, ◌-◌, ◌*◌, ◌<◌, ◌≤◌}
 use mathlib.Core.List.{List}
@@ -11,18 +12,15 @@ use borrow.Author.Tests.{eq-eqb, ne_eqb, eqb-true, eqb-false, ltb-true, lt-ltb}
 use Rattle.chars.specs.Chars.{byte_at}
 use Rattle.chars.proofs.Runs.{within}
 use Rattle.numbers.specs.declared.Base.{Base}
-use Rattle.numbers.specs.declared.Number.{Number}
+use Rattle.numbers.specs.Results.{Number}
 use Rattle.numbers.specs.Digits.{digit_of, number_of, plain}
 use Rattle.numbers.specs.Texts.{until_byte}
 use Rattle.numbers.proofs.Choices.{so, first, second, and_left, and_right}
 use Rattle.numbers.proofs.Digits.{number_says}
 use Rattle.chars.proofs.Texts.{part_slice}
 use Rattle.numbers.proofs.Texts.{until_ge}
-use Rattle.strings.specs.declared.Piece.{Piece}
+use Rattle.strings.specs.Results.{Piece}
 use Rattle.strings.specs.Escapes.{is_bare, simple_of, is_scalar, ascii_of, scalar_of, unicode_of, plain_escape, escape_of, piece_of}
-
-pub simple_at : {b n v : ℕ} → b ≡ n → v ≡ simple_of n → v ≡ simple_of b
-simple_at e h = h ∙ sym (ap simple_of e)
 
 -- two hex digits
 module _ (t : List ℕ) {a b h l : ℕ} (ha : a ≡ byte_at t 2) (hh : h ≡ digit_of a) (hb : b ≡ byte_at t 3) (hl : l ≡ digit_of b) where
@@ -32,11 +30,11 @@ module _ (t : List ℕ) {a b h l : ℕ} (ha : a ≡ byte_at t 2) (hh : h ≡ dig
   low : l ≡ digit_of (byte_at t 3)
   low = hl ∙ ap digit_of hb
 
-  pub ascii_is : (ltb h 8 && ltb l 16) ≡ true → Piece.Is (h * 16 + l) 4 ≡ ascii_of t
+  pub ascii_is : (ltb h 8 && ltb l 16) ≡ true → Some (h * 16 + l, 4) ≡ ascii_of t
   unfolding ascii_of
   ascii_is e = rw (← high, ← low) (first _ e refl)
 
-  pub ascii_not : (ltb h 8 && ltb l 16) ≡ false → Piece.None ≡ ascii_of t
+  pub ascii_not : (ltb h 8 && ltb l 16) ≡ false → None ≡ ascii_of t
   unfolding ascii_of
   ascii_not e = rw (← high, ← low) (second _ e refl)
 
@@ -55,16 +53,16 @@ closed x y = go (eqb x 125) (eqb y 95) (eqb-true x 125)
     go false v h e = let z : ◌≡◌ {A = ℕ} 0 1 = ap (λ w. elim w [ true ↦ 1 | false ↦ 0 ]) (sym e) in absurd (omega arith)
 
 module _ (t : List ℕ) {b : ℕ} (hb : b ≡ byte_at t 2) where
-  pub unicode_open : (b ≡ 123 → ⊥) → Piece.None ≡ unicode_of t
+  pub unicode_open : (b ≡ 123 → ⊥) → None ≡ unicode_of t
   unfolding unicode_of
   unicode_open e = second _ (ne_eqb _ _ (λ q. e (hb ∙ q))) refl
 
   module _ (f : b ≡ 123) {e x y : ℕ} (he : e ≡ until_byte 125 t 3) (hx : x ≡ byte_at t e) (hy : y ≡ byte_at t 3) where
-    inside : {r : Piece} → r ≡ cond (unclosed x y) Piece.None (scalar_of (number_of Base.Sixteen 1114111 (plain true (slice 3 e t))) (e + 1)) → r ≡ unicode_of t
+    inside : {r : Piece} → r ≡ cond (unclosed x y) None (scalar_of (number_of Base.Sixteen 1114111 (plain true (slice 3 e t))) (e + 1)) → r ≡ unicode_of t
     unfolding unicode_of
     inside g = first _ (eq-eqb _ _ (sym hb ∙ f)) (g ∙ rw (← he, ← hx, ← hy) refl)
 
-    pub unicode_unclosed : unclosed x y ≡ true → Piece.None ≡ unicode_of t
+    pub unicode_unclosed : unclosed x y ≡ true → None ≡ unicode_of t
     unicode_unclosed g = inside (first _ g refl)
 
     pub unicode_from : 3 ≤ e
@@ -78,21 +76,21 @@ module _ (t : List ℕ) {b : ℕ} (hb : b ≡ byte_at t 2) where
         number : n ≡ number_of Base.Sixteen 1114111 (plain true (slice 3 e t))
         number = hn ∙ ap (λ l. number_of Base.Sixteen 1114111 (plain true l)) (part_slice 3 e t)
 
-        pub unicode_none : n ≡ Number.None → Piece.None ≡ unicode_of t
+        pub unicode_none : n ≡ None → None ≡ unicode_of t
         unfolding scalar_of
-        unicode_none k = inside (second Piece.None g (sym (ap (λ m. scalar_of m (e + 1)) (so number k))))
+        unicode_none k = inside (second None g (sym (ap (λ m. scalar_of m (e + 1)) (so number k))))
 
-        module _ {v d : ℕ} (k : n ≡ Number.Is v d) {u : Bool} (hu : u ≡ is_scalar v) where
+        module _ {v d : ℕ} (k : n ≡ Some (v, d)) {u : Bool} (hu : u ≡ is_scalar v) where
           told : {w : Bool} → (leb d 6 && u) ≡ w → (leb d 6 && is_scalar v) ≡ w
           told q = ap (λ z. leb d 6 && z) (sym hu) ∙ q
 
-          pub unicode_is : (leb d 6 && u) ≡ true → Piece.Is v (e + 1) ≡ unicode_of t
+          pub unicode_is : (leb d 6 && u) ≡ true → Some (v, e + 1) ≡ unicode_of t
           unfolding scalar_of
-          unicode_is q = inside (second Piece.None g (first Piece.None (told q) refl ∙ sym (ap (λ m. scalar_of m (e + 1)) (so number k))))
+          unicode_is q = inside (second None g (first None (told q) refl ∙ sym (ap (λ m. scalar_of m (e + 1)) (so number k))))
 
-          pub unicode_not : (leb d 6 && u) ≡ false → Piece.None ≡ unicode_of t
+          pub unicode_not : (leb d 6 && u) ≡ false → None ≡ unicode_of t
           unfolding scalar_of
-          unicode_not q = inside (second Piece.None g (second (Piece.Is v (e + 1)) (told q) refl ∙ sym (ap (λ m. scalar_of m (e + 1)) (so number k))))
+          unicode_not q = inside (second None g (second (Some (v, e + 1)) (told q) refl ∙ sym (ap (λ m. scalar_of m (e + 1)) (so number k))))
 
 -- behind a backslash
 module _ (t : List ℕ) {b : ℕ} (hb : b ≡ byte_at t 1) where
@@ -105,18 +103,9 @@ module _ (t : List ℕ) {b : ℕ} (hb : b ≡ byte_at t 1) where
     unfolding escape_of
     escape_unicode e h = second _ (ne_eqb _ _ (λ q. f (hb ∙ q))) (first _ (eq-eqb _ _ (sym hb ∙ e)) h)
 
-    module _ (g : b ≡ 117 → ⊥) {c : ℕ} (hc : c ≡ simple_of b) where
-      plainly : {r : Piece} → r ≡ plain_escape c → r ≡ escape_of t
-      unfolding escape_of
-      plainly h = second _ (ne_eqb _ _ (λ q. f (hb ∙ q))) (second _ (ne_eqb _ _ (λ q. g (hb ∙ q))) (h ∙ ap plain_escape (hc ∙ ap simple_of hb)))
-
-      pub escape_none : c ≡ 256 → Piece.None ≡ escape_of t
-      unfolding plain_escape
-      escape_none e = plainly (first _ (eq-eqb _ _ e) refl)
-
-      pub escape_plain : (c ≡ 256 → ⊥) → Piece.Is c 2 ≡ escape_of t
-      unfolding plain_escape
-      escape_plain e = plainly (second _ (ne_eqb _ _ e) refl)
+    pub escape_plain : {r : Piece} → (b ≡ 117 → ⊥) → r ≡ plain_escape (simple_of b) → r ≡ escape_of t
+    unfolding escape_of
+    escape_plain g h = second _ (ne_eqb _ _ (λ q. f (hb ∙ q))) (second _ (ne_eqb _ _ (λ q. g (hb ∙ q))) (h ∙ ap (λ n. plain_escape (simple_of n)) hb))
 
 -- at the front of a text
 module _ (quote : ℕ) (t : List ℕ) {b : ℕ} (hb : b ≡ byte_at t 0) where
@@ -128,11 +117,11 @@ module _ (quote : ℕ) (t : List ℕ) {b : ℕ} (hb : b ≡ byte_at t 0) where
     barely : {w : Bool} → u ≡ w → is_bare quote (byte_at t 0) ≡ w
     barely e = ap (is_bare quote) (sym hb) ∙ sym hu ∙ e
 
-    pub piece_bare : u ≡ true → Piece.Is b 1 ≡ piece_of quote t
+    pub piece_bare : u ≡ true → Some (b, 1) ≡ piece_of quote t
     unfolding piece_of
-    piece_bare e = second _ (ne_eqb _ _ (λ q. f (hb ∙ q))) (first _ (barely e) (ap (λ n. Piece.Is n 1) hb))
+    piece_bare e = second _ (ne_eqb _ _ (λ q. f (hb ∙ q))) (first _ (barely e) (ap (λ n. Some (n, 1)) hb))
 
-    pub piece_none : u ≡ false → Piece.None ≡ piece_of quote t
+    pub piece_none : u ≡ false → None ≡ piece_of quote t
     unfolding piece_of
     piece_none e = second _ (ne_eqb _ _ (λ q. f (hb ∙ q))) (second _ (barely e) refl)
 
@@ -144,8 +133,8 @@ pub record Sound (t : List ℕ) (c n : ℕ) : Type 0 where
   pub wide : (128 ≤ c → 2 ≤ n) × (2048 ≤ c → 4 ≤ n)
 
 abbrev Sounds : List ℕ → Piece → Type 0
-Sounds t (Piece.Is c n) = Sound t c n
-Sounds t Piece.None = Unit {0}
+Sounds t (Some (c, n)) = Sound t c n
+Sounds t None = Unit {0}
 
 -- the number past the end is no hex digit, and no escape
 pub past_digit : ltb (digit_of 256) 16 ≡ false
@@ -184,7 +173,7 @@ module _ (t : List ℕ) where
   unfolding ascii_of
   ascii_sound = go (ltb (digit_of (byte_at t 2)) 8 && ltb (digit_of (byte_at t 3)) 16) refl
     where
-      go : (u : Bool) → (ltb (digit_of (byte_at t 2)) 8 && ltb (digit_of (byte_at t 3)) 16) ≡ u → Sounds t (cond u (Piece.Is (digit_of (byte_at t 2) * 16 + digit_of (byte_at t 3)) 4) Piece.None)
+      go : (u : Bool) → (ltb (digit_of (byte_at t 2)) 8 && ltb (digit_of (byte_at t 3)) 16) ≡ u → Sounds t (cond u (Some (digit_of (byte_at t 2) * 16 + digit_of (byte_at t 3), 4)) None)
       go true e =
           let b : (digit_of (byte_at t 2) < 8) × (digit_of (byte_at t 3) < 16) = below_two {h = digit_of (byte_at t 2)} {l = digit_of (byte_at t 3)} {m = 8} {n = 16} e in
           let i : 3 < length t = within (λ n. ltb (digit_of n) 16) past_digit t 3 (and_right (ltb (digit_of (byte_at t 2)) 8) (ltb (digit_of (byte_at t 3)) 16) e) in
@@ -195,7 +184,7 @@ module _ (t : List ℕ) where
   unfolding plain_escape
   plain_sound = go (eqb (simple_of (byte_at t 1)) 256) refl
     where
-      go : (u : Bool) → eqb (simple_of (byte_at t 1)) 256 ≡ u → Sounds t (cond u Piece.None (Piece.Is (simple_of (byte_at t 1)) 2))
+      go : (u : Bool) → eqb (simple_of (byte_at t 1)) 256 ≡ u → Sounds t (cond u None (Some (simple_of (byte_at t 1), 2)))
       go true e = tt
       go false e =
           let i : 1 < length t = within (λ n. not (eqb (simple_of n) 256)) past_escape_lem t 1 (ap not e) in
@@ -207,20 +196,20 @@ module _ (t : List ℕ) where
   unfolding scalar_of
   scalar_sound e text h k = go (number_of Base.Sixteen 1114111 text) refl
     where
-      pick : (v d : ℕ) → v ≤ 1114111 → (u : Bool) → Sounds t (cond u (Piece.Is v (e + 1)) Piece.None)
+      pick : (v d : ℕ) → v ≤ 1114111 → (u : Bool) → Sounds t (cond u (Some (v, e + 1)) None)
       pick v d m true = record { some = omega arith; inside = omega arith; point = m; wide = (λ z. omega arith, λ z. omega arith) }
       pick v d m false = tt
 
       go : (n : Number) → number_of Base.Sixteen 1114111 text ≡ n → Sounds t (scalar_of n (e + 1))
-      go (Number.Is v d) q = pick v d (number_says Base.Sixteen 1114111 text q).most (leb d 6 && is_scalar v)
-      go Number.None q = tt
+      go (Some (v, d)) q = pick v d (number_says Base.Sixteen 1114111 text q).most (leb d 6 && is_scalar v)
+      go None q = tt
 
   unicode_sound : Sounds t (unicode_of t)
   unfolding unicode_of
   unicode_sound = go (eqb (byte_at t 2) 123) (unclosed (byte_at t (until_byte 125 t 3)) (byte_at t 3)) refl
     where
       go : (u v : Bool) → unclosed (byte_at t (until_byte 125 t 3)) (byte_at t 3) ≡ v
-          → Sounds t (cond u (cond v Piece.None (scalar_of (number_of Base.Sixteen 1114111 (plain true (slice 3 (until_byte 125 t 3) t))) (until_byte 125 t 3 + 1))) Piece.None)
+          → Sounds t (cond u (cond v None (scalar_of (number_of Base.Sixteen 1114111 (plain true (slice 3 (until_byte 125 t 3) t))) (until_byte 125 t 3 + 1))) None)
       go true true e = tt
       go true false e =
           scalar_sound (until_byte 125 t 3) (plain true (slice 3 (until_byte 125 t 3) t)) (until_ge 125 t 3)
@@ -236,7 +225,7 @@ module _ (t : List ℕ) where
       go false true = unicode_sound
       go false false = plain_sound
 
-  bare_sound : (quote : ℕ) → is_bare quote (byte_at t 0) ≡ true → Sounds t (Piece.Is (byte_at t 0) 1)
+  bare_sound : (quote : ℕ) → is_bare quote (byte_at t 0) ≡ true → Sounds t (Some (byte_at t 0, 1))
   bare_sound quote e =
       let b : byte_at t 0 < 128 = bare_small quote (byte_at t 0) e in
       let i : 0 < length t = within (λ n. ltb n 128) refl t 0 (lt-ltb _ _ b) in
@@ -246,10 +235,10 @@ module _ (t : List ℕ) where
   unfolding piece_of
   piece_sound quote = go (eqb (byte_at t 0) 92) (is_bare quote (byte_at t 0)) refl
     where
-      go : (u v : Bool) → is_bare quote (byte_at t 0) ≡ v → Sounds t (cond u (escape_of t) (cond v (Piece.Is (byte_at t 0) 1) Piece.None))
+      go : (u v : Bool) → is_bare quote (byte_at t 0) ≡ v → Sounds t (cond u (escape_of t) (cond v (Some (byte_at t 0, 1)) None))
       go true v e = escape_sound
       go false true e = bare_sound quote e
       go false false e = tt
 
-  pub piece_is : (quote : ℕ) {p : Piece} {c n : ℕ} → p ≡ piece_of quote t → p ≡ Piece.Is c n → Sound t c n
+  pub piece_is : (quote : ℕ) {p : Piece} {c n : ℕ} → p ≡ piece_of quote t → p ≡ Some (c, n) → Sound t c n
   piece_is quote h e = subst (Sounds t) (so h e) (piece_sound quote)

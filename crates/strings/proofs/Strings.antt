@@ -1,4 +1,5 @@
 -- Strings read character by character, and what is written of them.
+use Rattle.std.specs.Prelude.{Some, None}
 use mathlib.Core.Path.{◌≡◌, refl, sym, ap, ap₂, ◌∙◌, subst}
 use Prim.Native.Nat.{ℕ, zero, suc, ◌+◌, ◌-◌, ◌<◌, ◌≤◌}
 use mathlib.Core.List.{List, [], ◌∷◌, ◌++◌, append-nil}
@@ -9,8 +10,8 @@ use lib.ListN.{length, take, drop, replicate, length-drop, length-append, drop_o
 use lib.Seq.{drop-drop, sets, length-sets}
 use Rattle.numbers.proofs.Choices.{so}
 use Rattle.numbers.proofs.Texts.{tail_part}
-use Rattle.strings.specs.declared.Piece.{Piece}
-use Rattle.strings.specs.declared.Size.{Size}
+use Rattle.strings.specs.Results.{Piece}
+use Rattle.strings.specs.Results.{Size}
 use Rattle.strings.specs.Escapes.{piece_of}
 use Rattle.strings.specs.Utf8.{utf8, width_of, encode}
 use Rattle.strings.specs.Strings.{after, codes_from, codes_of, encoded, bytes_of, sized, measure_of, Holds}
@@ -30,24 +31,24 @@ skipped (suc k) [] = refl
 skipped (suc k) (b ∷ l) = skipped k l
 
 abbrev go_on : List ℕ → Piece → Option (List ℕ)
-go_on l (Piece.Is c n) = after c (codes_from (n - 1) l)
-go_on l Piece.None = none
+go_on l (Some (c, n)) = after c (codes_from (n - 1) l)
+go_on l None = none
 
 codes_one : (b : ℕ) (l : List ℕ) → codes_of (b ∷ l) ≡ go_on l (piece_of 34 (b ∷ l))
 unfolding codes_from
 codes_one b l = go (piece_of 34 (b ∷ l))
   where
-    go : (p : Piece) → elim p [ Piece.Is c n ↦ after c (codes_from (n - 1) l) | Piece.None ↦ none ] ≡ go_on l p
-    go (Piece.Is c n) = refl
-    go Piece.None = refl
+    go : (p : Piece) → elim p [ Some (c, n) ↦ after c (codes_from (n - 1) l) | None ↦ none ] ≡ go_on l p
+    go (Some (c, n)) = refl
+    go None = refl
 
-pub codes_more : (l : List ℕ) {c n : ℕ} → 0 < length l → 1 ≤ n → piece_of 34 l ≡ Piece.Is c n → codes_of l ≡ after c (codes_of (drop n l))
+pub codes_more : (l : List ℕ) {c n : ℕ} → 0 < length l → 1 ≤ n → piece_of 34 l ≡ Some (c, n) → codes_of l ≡ after c (codes_of (drop n l))
 codes_more [] h k e = absurd (omega arith)
 codes_more (b ∷ l) {c} {n} h k e =
     let q : suc (n - 1) ≡ n = omega arith in
     codes_one b l ∙ ap (go_on l) e ∙ ap (after c) (skipped (n - 1) l ∙ ap (λ m. codes_of (drop m (b ∷ l))) q)
 
-pub codes_none : (l : List ℕ) → 0 < length l → piece_of 34 l ≡ Piece.None → codes_of l ≡ none
+pub codes_none : (l : List ℕ) → 0 < length l → piece_of 34 l ≡ None → codes_of l ≡ none
 codes_none [] h e = absurd (omega arith)
 codes_none (b ∷ l) h e = codes_one b l ∙ ap (go_on l) e
 
@@ -63,10 +64,10 @@ module _ (t : List ℕ) (i : ℕ) (h : i < length t) {p : Piece} (hp : p ≡ pie
   some_left : 0 < length (drop i t)
   some_left = omega (arith, length-drop i t)
 
-  pub turn_none : p ≡ Piece.None → codes_of (drop i t) ≡ none
+  pub turn_none : p ≡ None → codes_of (drop i t) ≡ none
   turn_none e = codes_none (drop i t) some_left (so front e)
 
-  module _ {c n : ℕ} (e : p ≡ Piece.Is c n) where
+  module _ {c n : ℕ} (e : p ≡ Some (c, n)) where
     pub turn_sound : Sound (drop i t) c n
     turn_sound = piece_is (drop i t) 34 front e
 
@@ -84,29 +85,29 @@ module _ (t : List ℕ) (i : ℕ) (h : i < length t) {p : Piece} (hp : p ≡ pie
 
 -- sizes
 abbrev pub plus : ℕ → Size → Size
-plus n (Size.Is m) = Size.Is (n + m)
-plus n Size.None = Size.None
+plus n (Some m) = Some (n + m)
+plus n None = None
 
 pub plus_zero : (s : Size) → plus 0 s ≡ s
-plus_zero (Size.Is m) = ap Size.Is (zero-add m)
-plus_zero Size.None = refl
+plus_zero (Some m) = ap Some (zero-add m)
+plus_zero None = refl
 
 plus_more : (n c : ℕ) {w : ℕ} (o : Option (List ℕ)) → w ≡ width_of c → plus (n + w) (sized o) ≡ plus n (sized (after c o))
 unfolding encode
 plus_more n c none e = refl
 plus_more n c (some cs) e =
-    ap Size.Is (omega (arith, e, length_utf8 c, length-append (utf8 c) (encode cs)))
+    ap Some (omega (arith, e, length_utf8 c, length-append (utf8 c) (encode cs)))
 
-pub measured_end : (t : List ℕ) (i n : ℕ) → length t ≤ i → Size.Is n ≡ plus n (measure_of (drop i t))
+pub measured_end : (t : List ℕ) (i n : ℕ) → length t ≤ i → Some n ≡ plus n (measure_of (drop i t))
 unfolding measure_of encode
-measured_end t i n h = ap Size.Is (sym (add-zero n)) ∙ ap (λ o. plus n (sized o)) (sym (codes_end t i h))
+measured_end t i n h = ap Some (sym (add-zero n)) ∙ ap (λ o. plus n (sized o)) (sym (codes_end t i h))
 
 module _ (t : List ℕ) (i n : ℕ) (h : i < length t) {p : Piece} (hp : p ≡ piece_of 34 (take (length t - i) (drop i t))) where
-  pub measured_none : p ≡ Piece.None → Size.None ≡ plus n (measure_of (drop i t))
+  pub measured_none : p ≡ None → None ≡ plus n (measure_of (drop i t))
   unfolding measure_of
   measured_none e = sym (ap (λ o. plus n (sized o)) (turn_none t i h hp e))
 
-  pub measured_more : {c k w : ℕ} → p ≡ Piece.Is c k → w ≡ width_of c → plus (n + w) (measure_of (drop (i + k) t)) ≡ plus n (measure_of (drop i t))
+  pub measured_more : {c k w : ℕ} → p ≡ Some (c, k) → w ≡ width_of c → plus (n + w) (measure_of (drop (i + k) t)) ≡ plus n (measure_of (drop i t))
   unfolding measure_of
   measured_more {c} {k} e hw = plus_more n c (codes_of (drop (i + k) t)) hw ∙ sym (ap (λ o. plus n (sized o)) (turn_more t i h hp e))
 
@@ -145,10 +146,10 @@ unfolding bytes_of encode
 left_end t T₀ T i at h s = sym (ap (λ o. sets T at (encoded o)) (codes_end t i h)) ∙ s.0
 
 module _ (t T₀ T : List ℕ) (i at : ℕ) (h : i < length t) {p : Piece} (hp : p ≡ piece_of 34 (take (length t - i) (drop i t))) (s : Left t T₀ T i at) where
-  pub left_none : p ≡ Piece.None → ⊥
+  pub left_none : p ≡ None → ⊥
   left_none e = subst (λ o. RoomFor o at (length T)) (turn_none t i h hp e) s.1
 
-  module _ {c n : ℕ} (e : p ≡ Piece.Is c n) where
+  module _ {c n : ℕ} (e : p ≡ Some (c, n)) where
     pub left_point : c ≤ 1114111
     left_point = (turn_sound t i h hp e).point
 

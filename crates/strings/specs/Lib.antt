@@ -1,3 +1,4 @@
+pub mod Results
 pub mod Escapes
 pub mod Utf8
 pub mod Strings

@@ -1,4 +1,5 @@
 -- A piece of text counted code point by code point.
+use Rattle.std.specs.Prelude.{Some, None}
 use mathlib.Core.Path.{◌≡◌, refl, sym, ap, ◌∙◌}
 use mathlib.Core.List.{List, [], ◌∷◌}
 use mathlib.Core.Option.{Option, none, some}
@@ -7,8 +8,8 @@ use Prim.Native.Nat.{ℕ, ◌+◌, ◌-◌, ◌≤◌, ◌<◌}
 use lib.Dec.{eqb, eqb→eq}
 use lib.ListN.{length, take, drop, length-append}
 use native.Mathlib.Omega.{arith}
-use Rattle.strings.specs.declared.Piece.{Piece}
-use Rattle.strings.specs.declared.Size.{Size}
+use Rattle.strings.specs.Results.{Piece}
+use Rattle.strings.specs.Results.{Size}
 use Rattle.strings.specs.Escapes.{piece_of}
 use Rattle.strings.specs.Utf8.{utf8, width_of, encode}
 use Rattle.strings.specs.Strings.{after, codes_of}
@@ -50,12 +51,12 @@ half_step n c cs false true false false p r = rw (p, r) (one_wider n c (folded c
 half_step n c cs false false false false p r = rw (p, r) (one_wider n c (folded close_brace false (folded open_brace false cs)))
 
 abbrev from : Halves → Option (List ℕ) → Size
-from h (some cs) = Size.Is (total h cs)
-from h none = Size.None
+from h (some cs) = Some (total h cs)
+from h none = None
 
 from_more : (h : Halves) (c : ℕ) (o : Option (List ℕ)) → from (with_code h c) o ≡ from h (after c o)
 from_more h c none = refl
-from_more h c (some cs) = ap Size.Is (half_step h.size c cs h.opened h.closed (eqb c open_brace) (eqb c close_brace) refl refl)
+from_more h c (some cs) = ap Some (half_step h.size c cs h.opened h.closed (eqb c open_brace) (eqb c close_brace) refl refl)
 
 -- a code point adds its bytes at most
 with_most : (h : Halves) (c : ℕ) → (with_code h c).size ≤ h.size + width_of c
@@ -81,29 +82,29 @@ counts_start t = record { left = go (codes_of t); small = omega arith; inside = 
     both cs = folded_halved close_brace (folded open_brace false cs) ∙ ap (halved close_brace) (folded_halved open_brace cs)
 
     go : (o : Option (List ℕ)) → from (record { size = 0; opened = false; closed = false }) o ≡ counted (final_of o)
-    go (some cs) = ap Size.Is (let e = ap (λ (l : List ℕ). length (encode l)) (both cs) in omega arith)
+    go (some cs) = ap Some (let e = ap (λ (l : List ℕ). length (encode l)) (both cs) in omega arith)
     go none = refl
 
 module _ {t : List ℕ} {i : ℕ} {h : Halves} (g : Counts t i h) (k : i < length t) {p : Piece} (hp : p ≡ piece_of quote (take (length t - i) (drop i t))) where
-  pub counts_none : p ≡ Piece.None → Size.None ≡ text_of t
+  pub counts_none : p ≡ None → None ≡ text_of t
   counts_none e = sym (ap (from h) (turn_none t i k hp e)) ∙ g.left
 
-  pub counts_wide : {c n : ℕ} → p ≡ Piece.Is c n → h.size + width_of c ≤ i + n
+  pub counts_wide : {c n : ℕ} → p ≡ Some (c, n) → h.size + width_of c ≤ i + n
   counts_wide e = let a = turn_width t i k hp e refl in let b = g.small in omega arith
 
-  pub counts_in : {c n : ℕ} → p ≡ Piece.Is c n → (i + n ≤ length t) × (1 ≤ n)
+  pub counts_in : {c n : ℕ} → p ≡ Some (c, n) → (i + n ≤ length t) × (1 ≤ n)
   counts_in e = (turn_inside t i k hp e, turn_some t i k hp e)
 
-  pub counts_more : {c n : ℕ} {h' : Halves} → p ≡ Piece.Is c n → h' ≡ with_code h c → Counts t (i + n) h'
+  pub counts_more : {c n : ℕ} {h' : Halves} → p ≡ Some (c, n) → h' ≡ with_code h c → Counts t (i + n) h'
   counts_more {c} {n} {h'} e q = record {
     left = ap (λ (x : Halves). from x (codes_of (drop (i + n) t))) q ∙ from_more h c (codes_of (drop (i + n) t)) ∙ sym (ap (from h) (turn_more t i k hp e)) ∙ g.left;
     small = let a = with_most h c in let b = counts_wide e in let z = ap (λ (x : Halves). x.size) q in omega arith;
     inside = turn_inside t i k hp e;
   }
 
-pub counts_end : {t : List ℕ} {i : ℕ} {h : Halves} → Counts t i h → length t ≤ i → Size.Is h.size ≡ text_of t
+pub counts_end : {t : List ℕ} {i : ℕ} {h : Halves} → Counts t i h → length t ≤ i → Some h.size ≡ text_of t
 unfolding folded encode
-counts_end {t} {i} {h} g k = ap Size.Is (empty h.opened h.closed) ∙ sym (ap (from h) (codes_end t i k)) ∙ g.left
+counts_end {t} {i} {h} g k = ap Some (empty h.opened h.closed) ∙ sym (ap (from h) (codes_end t i k)) ∙ g.left
   where
     empty : (o l : Bool) → h.size ≡ h.size + length (encode (folded_both o l []))
     empty o l = omega arith

@@ -1,4 +1,5 @@
 -- The scan byte by byte gives the piece that the items make.
+use Rattle.std.specs.Prelude.{Some, None}
 use mathlib.Core.Path.{◌≡◌, refl, sym, ap, subst, ◌∙◌}
 use mathlib.Core.List.{List, [], ◌∷◌}
 use mathlib.Core.Option.{Option, none, some}
@@ -10,8 +11,9 @@ use native.Mathlib.Decide.{dec_le}
 use native.Mathlib.Omega.{arith}
 use Rattle.texts.specs.declared.Mode.{Mode}
 use Rattle.texts.specs.declared.Mode.TheVariants.{Text, Escape, Letter, Code, Brace, Hole, Last, Torn}
+use Rattle.texts.specs.Results.{Scanned}
 use Rattle.texts.specs.declared.Part.{Part}
-use Rattle.texts.specs.declared.Part.TheVariants.{Before, Ends, None}
+use Rattle.texts.specs.declared.Part.TheVariants.{Before, Ends}
 use Rattle.texts.specs.Signs.{backslash, quote, open_brace, close_brace, small_u, capital_u}
 use Rattle.texts.specs.Parts.{past_open, past_close, past_code, past_escape, past_item, past_items, end_at, part_at}
 use Rattle.texts.specs.Modes.{mode_after, scans, ended_at, modes_from}
@@ -23,13 +25,13 @@ stays m at [] e = refl
 stays m at (b ∷ l) e = subst (λ (t : Bool). elim t [ true ↦ modes_from (mode_after m b) (at + 1) l | false ↦ ended_at m at ] ≡ ended_at m at) (sym e) refl
 
 -- the piece from the front of a list on, in a source that ends at `top`
-abbrev within : ℕ → List ℕ → Part
+abbrev within : ℕ → List ℕ → Scanned
 within top rest = end_at (top - length rest) rest
 
-abbrev Piece : ℕ → List ℕ → List ℕ → Part
+abbrev Piece : ℕ → List ℕ → List ℕ → Scanned
 Piece top count l = within top (past_items count l)
 
-abbrev behind : ℕ → List ℕ → Option (List ℕ) → Part
+abbrev behind : ℕ → List ℕ → Option (List ℕ) → Scanned
 behind top count none = None
 behind top count (some rest) = Piece top count rest
 
@@ -71,7 +73,7 @@ module _ (top : ℕ) (count : List ℕ) (at b : ℕ) (l : List ℕ) where
 
       go : (t : Bool) → modes_from (cond t Text Hole) (at + 1) l ≡ within top (up_to (elim t [ true ↦ some l | false ↦ none ]))
       go true = h
-      go false = stays Hole (at + 1) l refl ∙ ap Before (omega (arith, e))
+      go false = stays Hole (at + 1) l refl ∙ ap (λ (z : ℕ). Some (Before z)) (omega (arith, e))
 
 module _ (top : ℕ) (count : List ℕ) (at x : ℕ) (l : List ℕ) where
   at_backslash : modes_from Escape (at + 1) l ≡ behind top count (past_escape l) → modes_from Text at (backslash ∷ l) ≡ Piece top (x ∷ count) (backslash ∷ l)
@@ -90,9 +92,9 @@ module _ (top : ℕ) (count : List ℕ) (at x : ℕ) (l : List ℕ) where
   unfolding modes_from mode_after past_item past_items end_at
   at_quote e = stays Last (at + 1) l refl ∙ go l (omega (arith, e))
     where
-      go : (r : List ℕ) → at + 1 - 1 ≡ top - suc (length r) → Ends (at + 1 - 1) ≡ within top (quote ∷ r)
-      go [] q = ap Ends q
-      go (c ∷ r) q = ap Ends q
+      go : (r : List ℕ) → at + 1 - 1 ≡ top - suc (length r) → Some (Ends (at + 1 - 1)) ≡ within top (quote ∷ r)
+      go [] q = ap (λ (z : ℕ). Some (Ends z)) q
+      go (c ∷ r) q = ap (λ (z : ℕ). Some (Ends z)) q
 
   at_byte : (b : ℕ) → eqb b backslash ≡ false → eqb b open_brace ≡ false → eqb b quote ≡ false → modes_from Text (at + 1) l ≡ Piece top count l → modes_from Text at (b ∷ l) ≡ Piece top (x ∷ count) (b ∷ l)
   unfolding modes_from mode_after past_item past_items

@@ -1,4 +1,5 @@
 -- A piece of text lies in the source, and something stands behind it: the `{` of a hole and a byte, or the quote.
+use Rattle.std.specs.Prelude.{Some, None}
 use mathlib.Core.Path.{◌≡◌, sym, subst}
 use mathlib.Core.List.{List, [], ◌∷◌}
 use mathlib.Core.Bool.{Bool, true, false, ◌||◌, cond}
@@ -9,16 +10,17 @@ use native.Mathlib.Decide.{dec_le}
 use native.Mathlib.Omega.{arith}
 use Rattle.texts.specs.declared.Mode.{Mode}
 use Rattle.texts.specs.declared.Mode.TheVariants.{Text, Escape, Letter, Code, Brace, Hole, Last, Torn}
+use Rattle.texts.specs.Results.{Scanned}
 use Rattle.texts.specs.declared.Part.{Part}
-use Rattle.texts.specs.declared.Part.TheVariants.{Before, Ends, None}
+use Rattle.texts.specs.declared.Part.TheVariants.{Before, Ends}
 use Rattle.texts.specs.Signs.{backslash, quote, open_brace, close_brace, small_u, capital_u}
 use Rattle.texts.specs.Parts.{part_at}
 use Rattle.texts.specs.Modes.{mode_after, scans, ended_at, modes_from}
 use Rattle.texts.proofs.Items.{modes_part}
 
-pub data Parted (base top : ℕ) : Part → Type 0 where
-  parted_before : {e : ℕ} → base ≤ e → e + 2 ≤ top → Parted base top (Before e)
-  parted_ends : {e : ℕ} → base ≤ e → e + 1 ≤ top → Parted base top (Ends e)
+pub data Parted (base top : ℕ) : Scanned → Type 0 where
+  parted_before : {e : ℕ} → base ≤ e → e + 2 ≤ top → Parted base top (Some (Before e))
+  parted_ends : {e : ℕ} → base ≤ e → e + 1 ≤ top → Parted base top (Some (Ends e))
   parted_none : Parted base top None
 
 -- how many bytes a mode stands behind

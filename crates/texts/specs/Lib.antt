@@ -1,3 +1,4 @@
+pub mod Results
 pub mod Signs
 pub mod Parts
 pub mod Texts

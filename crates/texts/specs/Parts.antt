@@ -1,9 +1,10 @@
 -- C-11, "by the rules of `f_string_part`": where a piece of an f-string's text ends. Text is made of items, one behind the other:
 -- `\u{..}` and `\U{..}`, a backslash with any other byte, `{{`, and any byte but `\`, `{` and `"` by itself.
-use Rattle.std.specs.Prelude.{ℕ, ◌-◌, List, [], ◌∷◌, true, false, ◌||◌, eqb, length, drop}
+use Rattle.std.specs.Prelude.{Some, None, ℕ, ◌-◌, List, [], ◌∷◌, true, false, ◌||◌, eqb, length, drop}
 use Rattle.std.proofs.Math.Option.{Option, none, some}
+use Rattle.texts.specs.Results.{Scanned}
 use Rattle.texts.specs.declared.Part.{Part}
-use Rattle.texts.specs.declared.Part.TheVariants.{Before, Ends, None}
+use Rattle.texts.specs.declared.Part.TheVariants.{Before, Ends}
 use Rattle.texts.specs.Signs.{backslash, quote, open_brace, close_brace, small_u, capital_u}
 
 -- what stands behind a `{` at the front; none: no `{` is there
@@ -41,11 +42,11 @@ past_items (x ∷ count) l = elim (past_item l) [ none ↦ l | some rest ↦ pas
 
 -- The piece that ends at a place, by what stands from there on: "Check for the end of the string, which is an unescaped quote"; a hole's `{`
 -- and a byte, "We bump to _before_ the curly"; with anything else `f_string_part` gives no piece.
-unfoldable pub end_at : ℕ → List ℕ → Part
+unfoldable pub end_at : ℕ → List ℕ → Scanned
 end_at e [] = None
-end_at e (b ∷ []) = elim (eqb b quote) [ true ↦ Ends e | false ↦ None ]
-end_at e (b ∷ c ∷ l) = elim (eqb b quote) [ true ↦ Ends e | false ↦ elim (eqb b open_brace) [ true ↦ Before e | false ↦ None ] ]
+end_at e (b ∷ []) = elim (eqb b quote) [ true ↦ Some (Ends e) | false ↦ None ]
+end_at e (b ∷ c ∷ l) = elim (eqb b quote) [ true ↦ Some (Ends e) | false ↦ elim (eqb b open_brace) [ true ↦ Some (Before e) | false ↦ None ] ]
 
 -- The piece of text from a place on: it ends where the items end.
-unfoldable pub part_at : List ℕ → ℕ → Part
+unfoldable pub part_at : List ℕ → ℕ → Scanned
 part_at s at = let rest : List ℕ = past_items s (drop at s) in end_at (length s - length rest) rest

@@ -1,7 +1,7 @@
 -- C-11: what a piece of an f-string's text is worth: "A text piece is unescaped first and pairs of braces are halved after, as in the Rust".
-use Rattle.std.specs.Prelude.{ℕ, List, [], ◌∷◌, true, false, ◌&&◌, eqb, length}
+use Rattle.std.specs.Prelude.{Some, None, ℕ, List, [], ◌∷◌, true, false, ◌&&◌, eqb, length}
 use Rattle.std.proofs.Math.Option.{Option, none, some}
-use Rattle.strings.specs.declared.Size.{Size}
+use Rattle.strings.specs.Results.{Size}
 use Rattle.strings.specs.Strings.{codes_of}
 use Rattle.strings.specs.Utf8.{encode}
 use Rattle.texts.specs.Signs.{open_brace, close_brace}
@@ -25,8 +25,8 @@ abbrev pub final_bytes : List ℕ → Option (List ℕ)
 final_bytes text = final_of (codes_of text)
 
 abbrev pub counted : Option (List ℕ) → Size
-counted (some bytes) = Size.Is (length bytes)
-counted none = Size.None
+counted (some bytes) = Some (length bytes)
+counted none = None
 
 -- "its final byte count"
 unfoldable pub text_of : List ℕ → Size

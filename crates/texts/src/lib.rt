@@ -3,16 +3,13 @@
 
 ghost use Rattle.std.specs.Prelude.{◌≡◌, ◌+◌, ◌-◌, ◌≤◌};
 ghost use Rattle.strings.specs.Utf8.{width_of};
-ghost use Rattle.texts.specs.declared.Mode.TheVariants.{Text, Escape, Letter, Code, Brace};
 ghost use Rattle.texts.specs.Modes.{mode_after, scans, ended_at};
 ghost use Rattle.texts.specs.Halves.{with_code};
 ghost use Rattle.texts.specs.Parts.{part_at};
 ghost use Rattle.texts.specs.Texts.{text_of};
 
-use strings::{Piece, Size};
-
 // How an f-string's text stands where it is scanned, and what ended it.
-#[derive(Clone, Copy)]
+#[derive(Debug, Clone, Copy, PartialEq, Eq)]
 pub enum Mode {
     Text,
     Escape,
@@ -25,15 +22,14 @@ pub enum Mode {
 }
 
 // The end of a piece of text: before the `{` of a hole, or before the closing quote.
-#[derive(Clone, Copy)]
+#[derive(Debug, Clone, Copy, PartialEq, Eq)]
 pub enum Part {
     Before(usize),
     Ends(usize),
-    None,
 }
 
 // How many bytes a text has so far, and whether its last one is a `{`, or a `}`, that has no second yet.
-#[derive(Clone, Copy)]
+#[derive(Debug, Clone, Copy, PartialEq, Eq)]
 pub struct Halves {
     pub size: usize,
     pub opened: bool,
@@ -57,121 +53,55 @@ const SMALL_U: u8 = b'u';
 
 const CAPITAL_U: u8 = b'U';
 
-fn in_text(b: u8) -> Mode
-    ensures { result ≡ mode_after Text b }
-{
-    if b == BACKSLASH {
-        return Mode::Escape;
-    }
-    if b == OPEN_BRACE {
-        return Mode::Brace;
-    }
-    if b == QUOTE { Mode::Last } else { Mode::Text }
-}
-
-fn in_escape(b: u8) -> Mode
-    ensures { result ≡ mode_after Escape b }
-{
-    if (b == SMALL_U) | (b == CAPITAL_U) {
-        Mode::Letter
-    } else {
-        Mode::Text
-    }
-}
-
-fn in_letter(b: u8) -> Mode
-    ensures { result ≡ mode_after Letter b }
-{
-    if b == OPEN_BRACE {
-        Mode::Code
-    } else {
-        Mode::Torn
-    }
-}
-
-fn in_code(b: u8) -> Mode
-    ensures { result ≡ mode_after Code b }
-{
-    if b == CLOSE_BRACE {
-        Mode::Text
-    } else {
-        Mode::Code
-    }
-}
-
-fn in_brace(b: u8) -> Mode
-    ensures { result ≡ mode_after Brace b }
-{
-    if b == OPEN_BRACE {
-        Mode::Text
-    } else {
-        Mode::Hole
-    }
-}
-
 // The mode behind one more byte.
+#[tactic(auto, unfolding(crate::specs::Modes::mode_after))]
 fn mode_after(mode: Mode, b: u8) -> Mode
     ensures { result ≡ mode_after mode b }
 {
-    match mode {
-        Mode::Text => in_text(b),
-        Mode::Escape => in_escape(b),
-        Mode::Letter => in_letter(b),
-        Mode::Code => in_code(b),
-        Mode::Brace => in_brace(b),
-        Mode::Hole => Mode::Hole,
-        Mode::Last => Mode::Last,
-        Mode::Torn => Mode::Torn,
+    match (mode, b) {
+        (Mode::Text, BACKSLASH) => Mode::Escape,
+        (Mode::Text, OPEN_BRACE) => Mode::Brace,
+        (Mode::Text, QUOTE) => Mode::Last,
+        (Mode::Escape, SMALL_U | CAPITAL_U) => Mode::Letter,
+        (Mode::Escape, _) => Mode::Text,
+        (Mode::Letter, OPEN_BRACE) => Mode::Code,
+        (Mode::Letter, _) => Mode::Torn,
+        (Mode::Code, CLOSE_BRACE) => Mode::Text,
+        (Mode::Brace, OPEN_BRACE) => Mode::Text,
+        (Mode::Brace, _) => Mode::Hole,
+        _ => mode,
     }
 }
 
 fn scanning(mode: Mode) -> bool
     ensures { result ≡ scans mode }
 {
-    match mode {
-        Mode::Text => true,
-        Mode::Escape => true,
-        Mode::Letter => true,
-        Mode::Code => true,
-        Mode::Brace => true,
-        Mode::Hole => false,
-        Mode::Last => false,
-        Mode::Torn => false,
-    }
+    !matches!(mode, Mode::Hole | Mode::Last | Mode::Torn)
 }
 
-fn less(at: usize, n: usize) -> usize
-    ensures { result ≡ at - n }
-{
-    if at < n { 0 } else { at - n }
-}
-
-fn ended(mode: Mode, at: usize) -> Part
+// What ended before a place: two bytes behind the `{` of a hole, or one behind the quote.
+fn ended(mode: Mode, at: usize) -> Option<Part>
     ensures { result ≡ ended_at mode at }
 {
     match mode {
-        Mode::Text => Part::None,
-        Mode::Escape => Part::None,
-        Mode::Letter => Part::None,
-        Mode::Code => Part::None,
-        Mode::Brace => Part::None,
-        Mode::Hole => Part::Before(less(at, 2)),
-        Mode::Last => Part::Ends(less(at, 1)),
-        Mode::Torn => Part::None,
+        Mode::Hole => Some(Part::Before(at.saturating_sub(2))),
+        Mode::Last => Some(Part::Ends(at.saturating_sub(1))),
+        _ => None,
     }
 }
 
 // The piece of text from a place on.
-pub fn f_string_part(s: &[u8], at: usize) -> Part
+pub fn f_string_part(s: &[u8], at: usize) -> Option<Part>
     ensures { result ≡ part_at s.now at }
 {
-    let mut i = at;
     let mut mode = Mode::Text;
-    while (i < s.len()) & scanning(mode) {
+    for i in at..s.len() {
+        if !scanning(mode) {
+            return ended(mode, i);
+        }
         mode = mode_after(mode, s[i]);
-        i += 1;
     }
-    ended(mode, i)
+    ended(mode, s.len())
 }
 
 fn with_code(h: Halves, code: u64) -> Halves
@@ -200,7 +130,8 @@ fn with_code(h: Halves, code: u64) -> Halves
 }
 
 // How many bytes a piece of text has in the end.
-pub fn text(t: &[u8]) -> Size
+// kept: a `while`, since a character has from one byte on, and only what is read there says how many.
+pub fn text(t: &[u8]) -> Option<usize>
     ensures { result ≡ text_of t.now }
 {
     let mut i = 0;
@@ -210,11 +141,9 @@ pub fn text(t: &[u8]) -> Size
         closed: false,
     };
     while i < t.len() {
-        let Piece::Is { code, size } = strings::piece_of(&t[i..], QUOTE as u16) else {
-            return Size::None;
-        };
+        let (code, size) = strings::piece_of(&t[i..], QUOTE as u16)?;
         h = with_code(h, code);
         i += size;
     }
-    Size::Is(h.size)
+    Some(h.size)
 }

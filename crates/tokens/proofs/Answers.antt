@@ -1,4 +1,5 @@
 -- The answers: of a source as a whole, and where the tokens end.
+use Rattle.std.specs.Prelude.{Ok, Err}
 use mathlib.Core.Path.{◌≡◌}
 use Prim.Native.Nat.{ℕ, ◌+◌, ◌<◌, ◌≤◌}
 use mathlib.Core.List.{List}
@@ -11,10 +12,8 @@ use Rattle.chars.specs.Runs.{past_run}
 use Rattle.tokens.specs.declared.Cursor.{Cursor}
 use Rattle.tokens.specs.declared.Refusal.{Refusal}
 use Rattle.chars.specs.declared.Answer.{Answer}
-use Rattle.tokens.specs.declared.Step.{Step}
-use Rattle.tokens.specs.declared.Step.TheVariants.{Taken, Refused}
-use Rattle.tokens.specs.declared.Whole.{Whole}
-use Rattle.tokens.specs.declared.Whole.TheVariants.{Fine}
+use Rattle.tokens.specs.Results.{Step}
+use Rattle.tokens.specs.Results.{Whole}
 use Rattle.tokens.specs.Rules.{pair_at}
 use Rattle.tokens.specs.Tokens.{bad, whole_of, refusal, counted, last_of}
 use Rattle.tokens.proofs.Fits.{first, second}
@@ -34,19 +33,19 @@ module _ (s : List ℕ) {r : Whole} where
       unfolding whole_of
       whole_bang h e = rw (← to) (second _ (le-ltb _ _ short) (second _ (le-ltb _ _ low) (first _ h e)))
 
-      pub whole_fine : pair_at s 0 35 33 ≡ false → r ≡ Fine → r ≡ whole_of s
+      pub whole_fine : pair_at s 0 35 33 ≡ false → r ≡ (Ok tt) → r ≡ whole_of s
       unfolding whole_of
       whole_fine h e = rw (← to) (second _ (le-ltb _ _ short) (second _ (le-ltb _ _ low) (second _ h e)))
 
 module _ (step : Step) (len count room : ℕ) {r : Answer} where
-  pub last_taken : {w a : ℕ} {next : Cursor} → step ≡ Taken w a next → r ≡ counted len count room → r ≡ last_of step len count room
+  pub last_taken : {w a : ℕ} {next : Cursor} → step ≡ Ok (w, a, next) → r ≡ counted len count room → r ≡ last_of step len count room
   unfolding last_of
   last_taken e h = rw e h
 
-  pub last_end : {f : Refusal} → step ≡ Refused f → f.number ≡ 11 → r ≡ counted len count room → r ≡ last_of step len count room
+  pub last_end : {f : Refusal} → step ≡ Err f → f.number ≡ 11 → r ≡ counted len count room → r ≡ last_of step len count room
   unfolding last_of
   last_end e n h = rw e (first _ (eq-eqb _ _ n) h)
 
-  pub last_refused : {f : Refusal} → step ≡ Refused f → (f.number ≡ 11 → ⊥) → r ≡ refusal f → r ≡ last_of step len count room
+  pub last_refused : {f : Refusal} → step ≡ Err f → (f.number ≡ 11 → ⊥) → r ≡ refusal f → r ≡ last_of step len count room
   unfolding last_of
   last_refused e n h = rw e (second _ (ne_eqb _ _ n) h)

@@ -1,4 +1,5 @@
 -- The choice by the first byte: a rule that can't begin with the byte at a place doesn't fit there, so that the first of those that can is the first of all.
+use Rattle.std.specs.Prelude.{None}
 use mathlib.Core.Path.{◌≡◌, refl, sym, ap, ◌∙◌}
 use Prim.Native.Nat.{ℕ, ◌+◌, ◌<◌}
 use mathlib.Core.List.{List, [], ◌∷◌}
@@ -9,9 +10,8 @@ use borrow.Author.Tests.{lt-leb, leb-true, ne_eqb, eqb-true, eqb-false}
 use Rattle.chars.specs.declared.Class.TheVariants.{HexDigit, HexColon}
 use Rattle.chars.specs.Chars.{byte_at, is_class, is_digit, is_hex_digit}
 use Rattle.chars.proofs.Runs.{past_done, outside}
-use Rattle.tokens.specs.declared.Fit.{Fit}
-use Rattle.tokens.specs.declared.Fit.TheVariants.{No}
-use Rattle.tokens.specs.declared.Step.{Step}
+use Rattle.tokens.specs.Results.{Fit}
+use Rattle.tokens.specs.Results.{Step}
 use Rattle.tokens.specs.Rules.{or_else, refused, pair_at, ipv6_at, ipv4_at, two_at, one_at, as_at, hex_at, number_at, quote_at, is_name_start, name_at, token_at}
 use Rattle.tokens.proofs.Pairs.{snd, nor_first, nor_second}
 use Rattle.tokens.proofs.Fits.{so, not_first, fails, no_sign, ends, miss, also, second}
@@ -66,41 +66,41 @@ module _ (s : List ℕ) (at : ℕ) where
   quote_read e h = h ∙ ap (λ q. quote_at q (cond (eqb q 34) 9 10) s at) e
 
   -- rule by rule: the first bytes
-  pub ipv6_not : is_class HexColon b ≡ false → ipv6_at s at ≡ No
+  pub ipv6_not : is_class HexColon b ≡ false → ipv6_at s at ≡ None
   unfolding is_class
   ipv6_not h = sym (ipv6_none s at (sym (colons_first s at (sym (past_done (is_class HexDigit) (outside HexDigit) s at (nor_first (is_hex_digit b) _ h))) refl (eqb-false b 58 (nor_second (is_hex_digit b) _ h)))))
 
-  ipv4_not : is_digit b ≡ false → ipv4_at s at ≡ No
+  ipv4_not : is_digit b ≡ false → ipv4_at s at ≡ None
   unfolding ipv4_at
   ipv4_not h = sym (ends _ (sym (period_none s at h)))
 
-  two_not : has two_firsts b ≡ false → two_at s at ≡ No
+  two_not : has two_firsts b ≡ false → two_at s at ≡ None
   unfolding two_at
   two_not h = sym (no_sign (at + 2) refl (sym (no_two b (byte_at s (at + 1)) (rest_of two_firsts b h))))
 
-  one_not : has one_rest b ≡ false → one_at s at ≡ No
+  one_not : has one_rest b ≡ false → one_at s at ≡ None
   unfolding one_at
   one_not h = sym (no_sign (at + 1) refl (sym (no_one b (rest_of one_rest b h))))
 
-  as_not : eqb b 65 ≡ false → as_at s at ≡ No
+  as_not : eqb b 65 ≡ false → as_at s at ≡ None
   unfolding as_at pair_at
   as_not h = sym (fails _ _ (not_first _ (not_first _ h)))
 
-  hex_not : eqb b 48 ≡ false → hex_at s at ≡ No
+  hex_not : eqb b 48 ≡ false → hex_at s at ≡ None
   unfolding hex_at pair_at
   hex_not h = sym (fails _ _ (not_first _ h))
 
-  number_not : is_digit b ≡ false → number_at s at ≡ No
+  number_not : is_digit b ≡ false → number_at s at ≡ None
   number_not h = sym (number_none s at h)
 
   f_not : eqb b 102 ≡ false → pair_at s at 102 34 ≡ false
   unfolding pair_at
   f_not h = not_first _ h
 
-  quote_not : (q w : ℕ) → eqb b q ≡ false → quote_at q w s at ≡ No
+  quote_not : (q w : ℕ) → eqb b q ≡ false → quote_at q w s at ≡ None
   quote_not q w h = sym (quote_none s at q w refl (eqb-false b q h))
 
-  name_not : is_name_start b ≡ false → name_at s at ≡ No
+  name_not : is_name_start b ≡ false → name_at s at ≡ None
   unfolding name_at
   name_not h = sym (fails _ _ h)
 
@@ -122,18 +122,18 @@ module _ (s : List ℕ) (at : ℕ) where
   abbrev named : Step
   named = or_else at (as_at s at) (cond (pair_at s at 102 34) five (or_else at (name_at s at) four))
 
-  pub named_f : as_at s at ≡ No → pair_at s at 102 34 ≡ true → or_else at No no_token ≡ named
+  pub named_f : as_at s at ≡ None → pair_at s at 102 34 ≡ true → or_else at None no_token ≡ named
   unfolding or_else
   named_f a p = miss at a (rw p)
 
-  pub named_name : {r : Fit} → as_at s at ≡ No → pair_at s at 102 34 ≡ false → r ≡ name_at s at → or_else at r no_token ≡ named
+  pub named_name : {r : Fit} → as_at s at ≡ None → pair_at s at 102 34 ≡ false → r ≡ name_at s at → or_else at r no_token ≡ named
   named_name a p h = miss at a (rw p (also at h four))
 
   -- no rule behind the numbers fits
   none_later : is_name_start b ≡ false → eqb b 34 ≡ false → eqb b 39 ≡ false → no_token ≡ cond (pair_at s at 102 34) five later
   none_later n h g = ap (cond (pair_at s at 102 34) five) (miss at (quote_not 34 9 h) (miss at (quote_not 39 10 g) (miss at (name_not n) refl)))
 
-  module _ (v6 : ipv6_at s at ≡ No) where
+  module _ (v6 : ipv6_at s at ≡ None) where
     pub by_letter : {x : Step} → is_name_start b ≡ true → x ≡ named → x ≡ token_at s at
     unfolding token_at
     by_letter n h =
@@ -142,7 +142,7 @@ module _ (s : List ℕ) (at : ℕ) where
         miss at v6 (miss at (ipv4_not d) (miss at (two_not (none_of is_name_start two_firsts b n refl)) (miss at (one_not (none_of is_name_start one_rest b n refl)) (h ∙ ap (or_else at (as_at s at)) numbers))))
 
     module _ (n : is_name_start b ≡ false) where
-      no_as : as_at s at ≡ No
+      no_as : as_at s at ≡ None
       no_as = as_not (unlike is_name_start false b 65 n refl)
 
       pub by_digit : (r : Fit) → is_digit b ≡ true → ((d : Step) → or_else at r d ≡ or_else at (ipv4_at s at) (or_else at (hex_at s at) (or_else at (number_at s at) d))) → or_else at r no_token ≡ token_at s at
@@ -153,7 +153,7 @@ module _ (s : List ℕ) (at : ℕ) where
           miss at v6 (h no_token ∙ ap (or_else at (ipv4_at s at)) signs)
 
       module _ (d : is_digit b ≡ false) where
-        no_hex : hex_at s at ≡ No
+        no_hex : hex_at s at ≡ None
         no_hex = hex_not (unlike is_digit false b 48 d refl)
 
         pub by_sign : (r : Fit) → (eqb b 34 || eqb b 39) ≡ false → ((d : Step) → or_else at r d ≡ or_else at (two_at s at) (or_else at (one_at s at) d)) → or_else at r no_token ≡ token_at s at

@@ -1,3 +1,4 @@
+pub mod Results
 mod Fits
 mod Pairs
 pub mod Blanks

@@ -1,4 +1,5 @@
 -- The word of a name, from its text.
+use Rattle.std.specs.Prelude.{Some}
 use mathlib.Core.Path.{◌≡◌, refl, ◌∙◌}
 use Prim.Native.Nat.{ℕ, ◌+◌, ◌<◌, ◌≤◌}
 use mathlib.Core.List.{List}
@@ -11,7 +12,6 @@ use Rattle.chars.specs.declared.Class.TheVariants.{NamePart}
 use Rattle.chars.specs.Chars.{byte_at, is_class, is_letter, is_digit}
 use Rattle.chars.specs.Runs.{past_run}
 use Rattle.chars.proofs.Runs.{within, outside, past_more, past_gt, past_le}
-use Rattle.tokens.specs.declared.Fit.TheVariants.{To}
 use Rattle.tokens.specs.Words.{name_word}
 use Rattle.tokens.specs.Rules.{is_name_start, name_at}
 use Rattle.tokens.proofs.Fits.{fits}
@@ -38,6 +38,6 @@ name_inside s at h to =
       omega (arith, to, past_le (is_class NamePart) s at (omega (arith, k))),
     )
 
-pub name_fits : (s : List ℕ) (at : ℕ) {e w : ℕ} → is_name_start (byte_at s at) ≡ true → e ≡ past_run (is_class NamePart) s at → w ≡ name_word (slice at e s) → To e w ≡ name_at s at
+pub name_fits : (s : List ℕ) (at : ℕ) {e w : ℕ} → is_name_start (byte_at s at) ≡ true → e ≡ past_run (is_class NamePart) s at → w ≡ name_word (slice at e s) → Some (e, w) ≡ name_at s at
 unfolding name_at
 name_fits s at h to g = rw (← to) (fits h refl g)

@@ -1,4 +1,5 @@
 -- "(c) gives only 0 to 5 and 10."
+use Rattle.std.specs.Prelude.{Some, None, Ok, Err}
 use mathlib.Core.Path.{◌≡◌, refl, sym, subst}
 use mathlib.Core.List.{List}
 use mathlib.Core.Bool.{Bool, true, false, ◌||◌, cond}
@@ -9,12 +10,9 @@ use Rattle.chars.specs.declared.Answer.{Answer}
 use Rattle.chars.specs.declared.Class.TheVariants.{Ascii}
 use Rattle.chars.specs.Chars.{is_class}
 use Rattle.chars.specs.Runs.{past_run}
-use Rattle.tokens.specs.declared.Fit.{Fit}
-use Rattle.tokens.specs.declared.Fit.TheVariants.{To, No}
-use Rattle.tokens.specs.declared.Step.{Step}
-use Rattle.tokens.specs.declared.Step.TheVariants.{Taken, Refused}
-use Rattle.tokens.specs.declared.Whole.{Whole}
-use Rattle.tokens.specs.declared.Whole.TheVariants.{Fine, Refused as Bad}
+use Rattle.tokens.specs.Results.{Fit}
+use Rattle.tokens.specs.Results.{Step}
+use Rattle.tokens.specs.Results.{Whole}
 use Rattle.tokens.specs.Blanks.{skip_all}
 use Rattle.tokens.specs.Rules.{pair_at, refused, taken, or_else, token_at}
 use Rattle.tokens.specs.Tokens.{step_at, whole_of, Listed, list_from, list_of, refusal, counted, ended, unless, is_given, answer_of}
@@ -25,13 +23,13 @@ abbrev is_stopped : ℕ → Bool
 is_stopped n = leb n 5 || eqb n 11
 
 abbrev Stopping : Step → Type 0
-Stopping (Taken w a next) = Unit {0}
-Stopping (Refused r) = T (is_stopped r.number)
+Stopping (Ok (w, a, next)) = Unit {0}
+Stopping (Err r) = T (is_stopped r.number)
 
 or_stops : (at : ℕ) (f : Fit) (d : Step) → Stopping d → Stopping (or_else at f d)
 unfolding or_else taken
-or_stops at (To e w) d h = tt
-or_stops at No d h = h
+or_stops at (Some (e, w)) d h = tt
+or_stops at None d h = h
 
 pick_stops : (b : Bool) (x d : Step) → Stopping x → Stopping d → Stopping (cond b x d)
 pick_stops true x d h k = h
@@ -54,8 +52,8 @@ list_stops zero s at = tt
 list_stops (suc n) s at = go (step_at s at) refl (step_stops s at) (λ next. list_stops n s next)
   where
     go : (x : Step) → step_at s at ≡ x → Stopping x → ((next : ℕ) → T (is_stopped (list_from n s next).ending.number)) → T (is_stopped (list_from (suc n) s at).ending.number)
-    go (Taken w a next) e h rest = subst (λ (l : Listed). T (is_stopped l.ending.number)) (sym (list_taken n s at e)) (rest next.at)
-    go (Refused r) e h rest = subst (λ (l : Listed). T (is_stopped l.ending.number)) (sym (list_refused n s at e)) h
+    go (Ok (w, a, next)) e h rest = subst (λ (l : Listed). T (is_stopped l.ending.number)) (sym (list_taken n s at e)) (rest next.at)
+    go (Err r) e h rest = subst (λ (l : Listed). T (is_stopped l.ending.number)) (sym (list_refused n s at e)) h
 
 wider : (a b : Bool) → T (a || false) → T (a || b)
 wider true b h = tt
@@ -79,8 +77,8 @@ ended_given len l room h = go (eqb l.ending.number 11) refl
     go false e = wider (leb n 5) (eqb n 10) (subst (λ (b : Bool). T (leb n 5 || b)) e h)
 
 abbrev Told : Whole → Type 0
-Told Fine = Unit {0}
-Told (Bad r) = T (is_given r.number)
+Told (Ok tt) = Unit {0}
+Told (Err r) = T (is_given r.number)
 
 pick_told : (b : Bool) (x d : Whole) → Told x → Told d → Told (cond b x d)
 pick_told true x d h k = h
@@ -95,5 +93,5 @@ unfolding answer_of list_of
 only_given s room = go (whole_of s) (whole_told s)
   where
     go : (w : Whole) → Told w → T (is_given (unless w (ended (length s) (list_of s) room)).number)
-    go Fine h = ended_given (length s) (list_of s) room (list_stops _ s 0)
-    go (Bad r) h = h
+    go (Ok tt) h = ended_given (length s) (list_of s) room (list_stops _ s 0)
+    go (Err r) h = h

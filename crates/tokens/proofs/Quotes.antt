@@ -2,19 +2,19 @@
 use mathlib.Core.Path.{◌≡◌, refl, sym, ap, ◌∙◌}
 use Prim.Native.Nat.{ℕ, ◌+◌, ◌<◌}
 use mathlib.Core.List.{List}
-use mathlib.Core.Bool.{Bool, true, false, ◌&&◌, ◌||◌, not, true≢false}
+use mathlib.Core.Bool.{Bool, true, false, ◌&&◌, ◌||◌, not}
 use native.Mathlib.Omega.{arith}
-use lib.ListN.{length, get_or}
+use lib.ListN.{length}
 use lib.Dec.{eqb}
 use borrow.Author.Tests.{lt-ltb, eq-eqb, eqb-true, not-true, not-false}
 use Rattle.chars.specs.Chars.{byte_at}
 use Rattle.chars.specs.Runs.{past_span}
-use Rattle.chars.proofs.Runs.{byte_in, within, span_more, span_done}
+use Rattle.chars.proofs.Runs.{within, span_more, span_done}
 use Rattle.tokens.specs.Rules.{goes_on, escapes}
 use Rattle.tokens.proofs.Fits.{so, not_second}
-use Rattle.tokens.proofs.Pairs.{fst, snd}
+use Rattle.tokens.proofs.Pairs.{fst, snd, nor_first, nor_second}
 
-quote_outside : (q : ℕ) (c : Bool) → goes_on q c 256 ≡ false
+pub quote_outside : (q : ℕ) (c : Bool) → goes_on q c 256 ≡ false
 quote_outside q c = not_second (c || not (eqb 256 q)) refl
 
 module _ (q : ℕ) (s : List ℕ) where
@@ -25,18 +25,9 @@ module _ (q : ℕ) (s : List ℕ) where
   step : (i : ℕ) → goes_on q false (byte_at s i) ≡ true → eqb (byte_at s i) 92 ≡ false → to false (i + 1) ≡ to false i
   step i t f = ap (λ c. to c (i + 1)) (sym f) ∙ span_more (goes_on q) escapes false (quote_outside q false) s i t
 
-  -- a turn of a loop over a block, which reads the byte at i, and adds to `any` whether it is the quote or a backslash
-  module _ (i : ℕ) (h : i < length s) (k : get_or s i 0 < 256) where
-    other : (a b : Bool) → eqb (get_or s i 0) q ≡ a → eqb (get_or s i 0) 92 ≡ b → (a || b) ≡ false → to false (i + 1) ≡ to false i
-    other true b e f t = absurd (true≢false t)
-    other false b e f t = step i (ap (goes_on q false) (byte_in s i h) ∙ rw (e, lt-ltb (get_or s i 0) 256 k) refl) (ap (λ n. eqb n 92) (byte_in s i h) ∙ f ∙ t)
-
-    pub text_more : {from : ℕ} (any : Bool) → (any ≡ false → to false i ≡ from) → ((any || eqb (get_or s i 0) q) || eqb (get_or s i 0) 92) ≡ false → to false (i + 1) ≡ from
-    text_more true so_far e = absurd (true≢false e)
-    text_more false so_far e = other (eqb (get_or s i 0) q) (eqb (get_or s i 0) 92) refl refl e ∙ so_far refl
-
-  pub text_done : {i n from : ℕ} {any : Bool} → i ≡ n → (any ≡ false → to false i ≡ from) → any ≡ false → to false n ≡ from
-  text_done e so_far none = ap (to false) (sym e) ∙ so_far none
+  -- a byte that is neither the quote nor a backslash
+  pub plain_byte : {b : ℕ} → b < 256 → (eqb b q || eqb b 92) ≡ false → (goes_on q false b ≡ true) × (escapes false b ≡ false)
+  plain_byte {b} k e = (rw (nor_first (eqb b q) _ e, lt-ltb b 256 k) refl, nor_second (eqb b q) _ e)
 
   -- a turn of the loop of `plain_text`, which reads the byte twice
   module _ (i : ℕ) {x y : ℕ} {t : Bool} (read : x ≡ byte_at s i) (test : t ≡ goes_on q false x) (again : y ≡ byte_at s i) where

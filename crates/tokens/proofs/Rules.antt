@@ -1,4 +1,5 @@
 -- What each rule answers, from the places that were reached and the bytes that stand there.
+use Rattle.std.specs.Prelude.{Some, None}
 use mathlib.Core.Path.{◌≡◌, refl, sym, ap, ap₂, ◌∙◌}
 use Prim.Native.Nat.{ℕ, ◌+◌, ◌<◌, ◌≤◌}
 use mathlib.Core.List.{List, []}
@@ -13,8 +14,7 @@ use Rattle.chars.specs.Chars.{byte_at, is_class, is_digit}
 use Rattle.chars.specs.Texts.{same}
 use Rattle.chars.specs.Runs.{past_span, past_run, behind_last}
 use Rattle.chars.proofs.Runs.{byte_in, byte_out, inside}
-use Rattle.tokens.specs.declared.Fit.{Fit}
-use Rattle.tokens.specs.declared.Fit.TheVariants.{To, No}
+use Rattle.tokens.specs.Results.{Fit}
 use Rattle.tokens.specs.Words.{two_sign, two_signs, one_sign, one_signs, word_in, code_of}
 use Rattle.tokens.specs.Blanks.{past_comment}
 use Rattle.tokens.specs.Rules.{colons_at, fraction_at, dotted_at, three_at, decimal_group, or_to, ipv6_at, period_at, number_at, two_at, one_at, goes_on, escapes, quote_at}
@@ -39,25 +39,25 @@ module _ (s : List ℕ) (at : ℕ) where
 
   -- 1. IPv6: hex digits and colons
   module _ {a x : ℕ} (to : a ≡ past_run (is_class HexDigit) s at) (read : x ≡ byte_at s a) where
-    pub colons_first : (x ≡ 58 → ⊥) → No ≡ colons_at s at
+    pub colons_first : (x ≡ 58 → ⊥) → None ≡ colons_at s at
     unfolding colons_at
     colons_first h = rw (← to) (fails _ _ (not_first _ (byte_isn't s a read h)))
 
     module _ {b y : ℕ} (colon : x ≡ 58) (on : b ≡ past_run (is_class HexDigit) s (a + 1)) (next : y ≡ byte_at s b) where
-      pub colons_second : (y ≡ 58 → ⊥) → No ≡ colons_at s at
+      pub colons_second : (y ≡ 58 → ⊥) → None ≡ colons_at s at
       unfolding colons_at
       colons_second h = rw (← to, ← on) (fails_second (eqb (byte_at s a) 58) _ _ (byte_isn't s b next h))
 
-      pub colons_fit : {r : ℕ} → y ≡ 58 → r ≡ past_run (is_class HexColon) s (b + 1) → To r 1 ≡ colons_at s at
+      pub colons_fit : {r : ℕ} → y ≡ 58 → r ≡ past_run (is_class HexColon) s (b + 1) → Some (r, 1) ≡ colons_at s at
       unfolding colons_at
       colons_fit h g = rw (← to, ← on) (fits (both (byte_is s a read colon) (byte_is s b next h)) g refl)
 
   -- a period with digits
-  pub dotted_fits : {r : ℕ} → fraction_at s at ≡ true → r ≡ past_run (is_class Digit) s (at + 1) → To r 1 ≡ dotted_at s at
+  pub dotted_fits : {r : ℕ} → fraction_at s at ≡ true → r ≡ past_run (is_class Digit) s (at + 1) → Some (r, 1) ≡ dotted_at s at
   unfolding dotted_at
   dotted_fits h e = fits h e refl
 
-  pub dotted_fails : fraction_at s at ≡ false → No ≡ dotted_at s at
+  pub dotted_fails : fraction_at s at ≡ false → None ≡ dotted_at s at
   unfolding dotted_at
   dotted_fails h = fails _ _ h
 
@@ -72,58 +72,58 @@ module _ (s : List ℕ) (at : ℕ) where
     group_none h = rw (← from, le-ltb _ _ h) refl
 
   -- the ending of an address
-  pub ipv6_none : colons_at s at ≡ No → No ≡ ipv6_at s at
+  pub ipv6_none : colons_at s at ≡ None → None ≡ ipv6_at s at
   unfolding ipv6_at
   ipv6_none h = ends _ h
 
-  module _ {e w : ℕ} (to : colons_at s at ≡ To e w) where
-    ending : {t : Bool} {f x : Fit} → decimal_group s e ≡ t → three_at s e ≡ f → x ≡ or_to (cond t f No) e → x ≡ ipv6_at s at
+  module _ {e w : ℕ} (to : colons_at s at ≡ Some (e, w)) where
+    ending : {t : Bool} {f x : Fit} → decimal_group s e ≡ t → three_at s e ≡ f → x ≡ or_to (cond t f None) e → x ≡ ipv6_at s at
     unfolding ipv6_at
     ending h g k = goes_on_lem _ to (rw (h, g) k)
 
-    stays : (t : Bool) (f : Fit) → cond t f No ≡ No → To e 1 ≡ or_to (cond t f No) e
+    stays : (t : Bool) (f : Fit) → cond t f None ≡ None → Some (e, 1) ≡ or_to (cond t f None) e
     unfolding or_to
     stays t f h = rw h
 
-    pub ipv6_three : three_at s e ≡ No → To e 1 ≡ ipv6_at s at
-    ipv6_three h = ending refl h (stays (decimal_group s e) No (go (decimal_group s e)))
+    pub ipv6_three : three_at s e ≡ None → Some (e, 1) ≡ ipv6_at s at
+    ipv6_three h = ending refl h (stays (decimal_group s e) None (go (decimal_group s e)))
       where
-        go : (t : Bool) → cond t No No ≡ No
+        go : (t : Bool) → ◌≡◌ {A = Fit} (cond t None None) None
         go true = refl
         go false = refl
 
-    pub ipv6_hex : {t : Bool} → t ≡ decimal_group s e → t ≡ false → To e 1 ≡ ipv6_at s at
+    pub ipv6_hex : {t : Bool} → t ≡ decimal_group s e → t ≡ false → Some (e, 1) ≡ ipv6_at s at
     ipv6_hex d h = ending (so d h) refl (stays false (three_at s e) refl)
 
-    pub ipv6_dotted : {t : Bool} {r v : ℕ} → t ≡ decimal_group s e → t ≡ true → three_at s e ≡ To r v → To r 1 ≡ ipv6_at s at
+    pub ipv6_dotted : {t : Bool} {r v : ℕ} → t ≡ decimal_group s e → t ≡ true → three_at s e ≡ Some (r, v) → Some (r, 1) ≡ ipv6_at s at
     unfolding or_to
     ipv6_dotted d h g = ending (so d h) g refl
 
   -- 2. IPv4: a part of it
-  pub period_none : is_digit (byte_at s at) ≡ false → No ≡ period_at s at
+  pub period_none : is_digit (byte_at s at) ≡ false → None ≡ period_at s at
   unfolding period_at
   period_none h = fails _ _ (not_first _ h)
 
   module _ {e x : ℕ} (to : e ≡ past_run (is_class Digit) s at) (read : x ≡ byte_at s e) where
-    pub period_fails : (x ≡ 46 → ⊥) → No ≡ period_at s at
+    pub period_fails : (x ≡ 46 → ⊥) → None ≡ period_at s at
     unfolding period_at
     period_fails h = rw (← to) (fails_second (is_digit (byte_at s at)) _ _ (byte_isn't s e read h))
 
-    pub period_fits : is_digit (byte_at s at) ≡ true → x ≡ 46 → To (e + 1) 2 ≡ period_at s at
+    pub period_fits : is_digit (byte_at s at) ≡ true → x ≡ 46 → Some (e + 1, 2) ≡ period_at s at
     unfolding period_at
     period_fits h g = rw (← to) (fits (both h (byte_is s e read g)) refl refl)
 
   -- 7. Integer, 8. Float
-  pub number_none : is_digit (byte_at s at) ≡ false → No ≡ number_at s at
+  pub number_none : is_digit (byte_at s at) ≡ false → None ≡ number_at s at
   unfolding number_at
   number_none h = fails _ _ h
 
   module _ {whole : ℕ} (digit : is_digit (byte_at s at) ≡ true) (to : whole ≡ past_run (is_class Figure) s at) where
-    pub number_float : {e r : ℕ} → fraction_at s whole ≡ true → e ≡ past_run (is_class Figure) s (whole + 1) → r ≡ past_run (is_class NamePart) s e → To r 8 ≡ number_at s at
+    pub number_float : {e r : ℕ} → fraction_at s whole ≡ true → e ≡ past_run (is_class Figure) s (whole + 1) → r ≡ past_run (is_class NamePart) s e → Some (r, 8) ≡ number_at s at
     unfolding number_at
     number_float h g k = rw (← to, h, ← g) (fits digit k refl)
 
-    pub number_integer : {r : ℕ} → fraction_at s whole ≡ false → r ≡ past_run (is_class NamePart) s whole → To r 7 ≡ number_at s at
+    pub number_integer : {r : ℕ} → fraction_at s whole ≡ false → r ≡ past_run (is_class NamePart) s whole → Some (r, 7) ≡ number_at s at
     unfolding number_at
     number_integer h k = rw (← to, h) (fits digit k refl)
 
@@ -145,25 +145,25 @@ module _ (s : List ℕ) (at : ℕ) where
 
   -- 9. String, 10. Char
   module _ (q w : ℕ) where
-    pub quote_none : {x : ℕ} → x ≡ byte_at s at → (x ≡ q → ⊥) → No ≡ quote_at q w s at
+    pub quote_none : {x : ℕ} → x ≡ byte_at s at → (x ≡ q → ⊥) → None ≡ quote_at q w s at
     unfolding quote_at
     quote_none e h = fails _ _ (not_first _ (byte_isn't s at e h))
 
     module _ {close : ℕ} (to : close ≡ past_span (goes_on q) escapes false s (at + 1)) where
-      pub quote_open : length s ≤ close + 1 → No ≡ quote_at q w s at
+      pub quote_open : length s ≤ close + 1 → None ≡ quote_at q w s at
       unfolding quote_at
       quote_open h = rw (← to) (fails_second (eqb (byte_at s at) q) _ _ (le-ltb _ _ h))
 
-      pub quote_fits : {x : ℕ} → x ≡ byte_at s at → x ≡ q → close + 1 < length s → To (close + 1) w ≡ quote_at q w s at
+      pub quote_fits : {x : ℕ} → x ≡ byte_at s at → x ≡ q → close + 1 < length s → Some (close + 1, w) ≡ quote_at q w s at
       unfolding quote_at
       quote_fits e h g = rw (← to) (fits (both (byte_is s at e h) (lt-ltb _ _ g)) refl refl)
 
 -- 3. Two signs: none without a second byte. 4. One sign: none past the end
-pub two_out : (s : List ℕ) (at : ℕ) → length s ≤ at + 1 → No ≡ two_at s at
+pub two_out : (s : List ℕ) (at : ℕ) → length s ≤ at + 1 → None ≡ two_at s at
 unfolding two_at two_signs
 two_out s at h = no_sign (at + 2) refl (ap (two_sign (byte_at s at)) (byte_out s (at + 1) h) ∙ sym (no_first [] (byte_at s at) 256 refl tt))
 
-pub one_out : (s : List ℕ) (at : ℕ) → length s ≤ at → No ≡ one_at s at
+pub one_out : (s : List ℕ) (at : ℕ) → length s ≤ at → None ≡ one_at s at
 unfolding one_at
 one_out s at h = no_sign (at + 1) refl (ap one_sign (byte_out s at h) ∙ one_none)
 

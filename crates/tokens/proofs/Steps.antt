@@ -1,4 +1,5 @@
 -- The step, from where what is skipped ends; and where a step is taken it goes on, inside the source.
+use Rattle.std.specs.Prelude.{Some, None, Ok, Err}
 use mathlib.Core.Path.{◌≡◌, refl, ap, ◌∙◌, subst}
 use Prim.Native.Nat.{ℕ, ◌+◌, ◌<◌, ◌≤◌}
 use mathlib.Core.List.{List}
@@ -14,11 +15,9 @@ use Rattle.chars.specs.Chars.{byte_at, is_class, is_digit}
 use Rattle.chars.specs.Texts.{same}
 use Rattle.chars.specs.Runs.{past_span, past_run}
 use Rattle.chars.proofs.Runs.{byte_out, inside, within, outside, span_ge, past_ge, past_le, past_gt}
-use Rattle.tokens.specs.declared.Fit.{Fit}
-use Rattle.tokens.specs.declared.Fit.TheVariants.{To, No}
+use Rattle.tokens.specs.Results.{Fit}
 use Rattle.tokens.specs.declared.Cursor.{Cursor}
-use Rattle.tokens.specs.declared.Step.{Step}
-use Rattle.tokens.specs.declared.Step.TheVariants.{Taken, Refused}
+use Rattle.tokens.specs.Results.{Step}
 use Rattle.tokens.specs.Words.{two_sign, two_signs, word_in, name_word}
 use Rattle.tokens.specs.Blanks.{skip_all}
 use Rattle.tokens.specs.Rules.{when_fit, sign_fit, then_fit, or_else, taken, refused, pair_at, colons_at, fraction_at, dotted_at, three_at, decimal_group, or_to, ipv6_at, period_at, ipv4_at, two_at, one_at, as_at, hex_at, number_at, goes_on, escapes, quote_at, is_name_start, name_at, token_at}
@@ -39,8 +38,8 @@ module _ (s : List ℕ) (at : ℕ) {a : ℕ} (to : a ≡ skip_all s at) {r : Ste
 
 -- where a rule fits it goes on past its start and not past the end
 abbrev GoodFit : List ℕ → ℕ → Fit → Type 0
-GoodFit s at (To e w) = (at < e) × (e ≤ length s)
-GoodFit s at No = Unit {0}
+GoodFit s at (Some (e, w)) = (at < e) × (e ≤ length s)
+GoodFit s at None = Unit {0}
 
 when_good : (s : List ℕ) (at : ℕ) (t : Bool) (e w : ℕ) → (t ≡ true → (at < e) × (e ≤ length s)) → GoodFit s at (when_fit t e w)
 unfolding when_fit
@@ -49,12 +48,12 @@ when_good s at false e w h = tt
 
 then_good : (s : List ℕ) (at : ℕ) (f : Fit) (g : ℕ → Fit) → GoodFit s at f → ((m : ℕ) → at < m → m ≤ length s → GoodFit s at (g m)) → GoodFit s at (then_fit f g)
 unfolding then_fit
-then_good s at (To m w) g h k = k m h.0 h.1
-then_good s at No g h k = tt
+then_good s at (Some (m, w)) g h k = k m h.0 h.1
+then_good s at None g h k = tt
 
 wider : (s : List ℕ) (at m : ℕ) → at ≤ m → (f : Fit) → GoodFit s m f → GoodFit s at f
-wider s at m h (To e w) k = (omega (arith, h, k), k.1)
-wider s at m h No k = tt
+wider s at m h (Some (e, w)) k = (omega (arith, h, k), k.1)
+wider s at m h None k = tt
 
 and_false : (t : Bool) → (t && false) ≡ false
 and_false true = refl
@@ -147,10 +146,10 @@ three_good s at =
     then_good s at (dotted_at s a) _ (wider s at a (omega (arith, h)) (dotted_at s a) (dotted_good s a)) λ b k k'.
     wider s at b (omega (arith, k)) (dotted_at s b) (dotted_good s b)
 
-ending_good : (s : List ℕ) (at e : ℕ) → at < e → e ≤ length s → (t : Bool) (f : Fit) → GoodFit s at f → GoodFit s at (or_to (cond t f No) e)
+ending_good : (s : List ℕ) (at e : ℕ) → at < e → e ≤ length s → (t : Bool) (f : Fit) → GoodFit s at f → GoodFit s at (or_to (cond t f None) e)
 unfolding or_to
-ending_good s at e h k true (To r w) g = g
-ending_good s at e h k true No g = (h, k)
+ending_good s at e h k true (Some (r, w)) g = g
+ending_good s at e h k true None g = (h, k)
 ending_good s at e h k false f g = (h, k)
 
 ipv6_good : (s : List ℕ) (at : ℕ) → GoodFit s at (ipv6_at s at)
@@ -169,13 +168,13 @@ ipv4_good s at =
 
 -- a token is not empty, lies in the source at or behind the cursor, and the next cursor stands at its end
 abbrev pub GoodStep : List ℕ → ℕ → Step → Type 0
-GoodStep s at (Taken w a next) = (at ≤ a) × (a < next.at) × (next.at ≤ length s)
-GoodStep s at (Refused r) = Unit {0}
+GoodStep s at (Ok (w, a, next)) = (at ≤ a) × (a < next.at) × (next.at ≤ length s)
+GoodStep s at (Err r) = Unit {0}
 
 or_good : (s : List ℕ) (at a : ℕ) → at ≤ a → (f : Fit) → GoodFit s a f → (d : Step) → GoodStep s at d → GoodStep s at (or_else a f d)
 unfolding or_else taken
-or_good s at a h (To e w) k d g = (h, k.0, k.1)
-or_good s at a h No k d g = g
+or_good s at a h (Some (e, w)) k d g = (h, k.0, k.1)
+or_good s at a h None k d g = g
 
 pick_good : (s : List ℕ) (at : ℕ) (t : Bool) (a b : Step) → GoodStep s at a → GoodStep s at b → GoodStep s at (cond t a b)
 pick_good s at true a b h k = h
@@ -200,5 +199,5 @@ pub step_good : (s : List ℕ) (at : ℕ) → GoodStep s at (step_at s at)
 unfolding step_at refused skip_all
 step_good s at = pick_good s at (ltb (skip_all s at) (length s)) _ _ (token_good s at (skip_all s at) (omega arith)) tt
 
-pub taken_good : (s : List ℕ) (at : ℕ) {w a : ℕ} {next : Cursor} → step_at s at ≡ Taken w a next → (at ≤ a) × (a < next.at) × (next.at ≤ length s)
+pub taken_good : (s : List ℕ) (at : ℕ) {w a : ℕ} {next : Cursor} → step_at s at ≡ Ok (w, a, next) → (at ≤ a) × (a < next.at) × (next.at ≤ length s)
 taken_good s at e = subst (GoodStep s at) e (step_good s at)

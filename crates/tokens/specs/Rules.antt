@@ -1,19 +1,17 @@
 -- "Then the first rule that fits; its number is the token's code."
-use Rattle.std.specs.Prelude.{ℕ, ◌+◌, List, Bool, true, false, ◌&&◌, ◌||◌, not, cond, length, eqb, ltb}
+use Rattle.std.specs.Prelude.{Some, None, Ok, Err, ℕ, ◌+◌, List, Bool, true, false, ◌&&◌, ◌||◌, not, cond, length, eqb, ltb}
 use Rattle.std.proofs.Math.Seq.{slice}
 use Rattle.chars.specs.declared.Class.TheVariants.{Digit, Figure, HexDigit, HexColon, NamePart}
 use Rattle.chars.specs.Chars.{byte_at, is_class, is_digit, is_letter}
 use Rattle.chars.specs.Runs.{past_span, past_run, behind_last}
-use Rattle.tokens.specs.declared.Fit.{Fit}
-use Rattle.tokens.specs.declared.Fit.TheVariants.{To, No}
-use Rattle.tokens.specs.declared.Step.{Step}
-use Rattle.tokens.specs.declared.Step.TheVariants.{Taken, Refused}
+use Rattle.tokens.specs.Results.{Fit}
+use Rattle.tokens.specs.Results.{Step}
 use Rattle.tokens.specs.Words.{two_sign, one_sign, name_word}
 
 -- to e, as the word w, where the test holds
 unfoldable pub when_fit : Bool → ℕ → ℕ → Fit
-when_fit true e w = To e w
-when_fit false e w = No
+when_fit true e w = Some (e, w)
+when_fit false e w = None
 
 -- a sign's word, or none
 unfoldable pub sign_fit : ℕ → ℕ → Fit
@@ -21,8 +19,8 @@ sign_fit w e = when_fit (not (eqb w 0)) e w
 
 -- one part and then another from where it ends
 unfoldable pub then_fit : Fit → (ℕ → Fit) → Fit
-then_fit (To e w) f = f e
-then_fit No f = No
+then_fit (Some (e, w)) f = f e
+then_fit None f = None
 
 -- two bytes stand at a place
 unfoldable pub pair_at : List ℕ → ℕ → ℕ → ℕ → Bool
@@ -53,13 +51,13 @@ decimal_group s e = let group : ℕ = behind_last 58 s e in ltb group e && eqb (
 
 -- to where a longer token ends, or else to an end
 unfoldable pub or_to : Fit → ℕ → Fit
-or_to (To e w) end = To e 1
-or_to No end = To end 1
+or_to (Some (e, w)) end = Some (e, 1)
+or_to None end = Some (end, 1)
 
 -- document 02, C-16: "when the last group of an IPv6 token is one or more decimal digits only and three times a period with decimal
 -- digits follows at once, the token runs to the end of the fourth number"
 unfoldable pub ipv6_at : List ℕ → ℕ → Fit
-ipv6_at s at = then_fit (colons_at s at) λ e. or_to (cond (decimal_group s e) (three_at s e) No) e
+ipv6_at s at = then_fit (colons_at s at) λ e. or_to (cond (decimal_group s e) (three_at s e) None) e
 
 -- "digits+ `.`"
 unfoldable pub period_at : List ℕ → ℕ → Fit
@@ -67,7 +65,7 @@ period_at s at = let e : ℕ = past_run (is_class Digit) s at in when_fit (is_di
 
 -- "2. IPv4: three times digits+ `.`, then digits*."
 unfoldable pub ipv4_at : List ℕ → ℕ → Fit
-ipv4_at s at = then_fit (period_at s at) λ a. then_fit (period_at s a) λ b. then_fit (period_at s b) λ c. To (past_run (is_class Digit) s c) 2
+ipv4_at s at = then_fit (period_at s at) λ a. then_fit (period_at s a) λ b. then_fit (period_at s b) λ c. Some (past_run (is_class Digit) s c, 2)
 
 -- "3. Two signs"
 unfoldable pub two_at : List ℕ → ℕ → Fit
@@ -118,15 +116,15 @@ name_at s at =
 
 -- a word from a place to an end, and the cursor behind it
 unfoldable pub taken : ℕ → ℕ → ℕ → Step
-taken at e w = Taken w at (record { at = e })
+taken at e w = Ok (w, at, record { at = e })
 
 unfoldable pub refused : ℕ → ℕ → ℕ → Step
-refused n a e = Refused (record { number = n; start = a; end = e })
+refused n a e = Err (record { number = n; start = a; end = e })
 
 -- the token where a rule fits, and else what the later rules say
 unfoldable pub or_else : ℕ → Fit → Step → Step
-or_else at (To e w) later = taken at e w
-or_else at No later = later
+or_else at (Some (e, w)) later = taken at e w
+or_else at None later = later
 
 -- "Then `f"`: refusal 5.": "those two bytes"; "4: no token starts here: that byte, +1".
 -- What the rules say at a place where a byte stands that isn't skipped:

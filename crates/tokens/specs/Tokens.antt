@@ -1,5 +1,5 @@
 -- The next token at a place, the whole list, and the answer to a source.
-use Rattle.std.specs.Prelude.{Bool, ◌||◌, cond, ℕ, zero, suc, ◌+◌, List, [], ◌∷◌, length, eqb, ltb, leb}
+use Rattle.std.specs.Prelude.{Ok, Err, Bool, ◌||◌, cond, ℕ, zero, suc, ◌+◌, List, [], ◌∷◌, length, eqb, ltb, leb}
 use Rattle.chars.specs.declared.Class.TheVariants.{Ascii}
 use Rattle.chars.specs.Chars.{is_class}
 use Rattle.chars.specs.Runs.{past_run}
@@ -7,10 +7,8 @@ use Rattle.tokens.specs.declared.Token.{Token}
 use Rattle.tokens.specs.declared.Cursor.{Cursor}
 use Rattle.tokens.specs.declared.Refusal.{Refusal}
 use Rattle.chars.specs.declared.Answer.{Answer}
-use Rattle.tokens.specs.declared.Step.{Step}
-use Rattle.tokens.specs.declared.Step.TheVariants.{Taken, Refused}
-use Rattle.tokens.specs.declared.Whole.{Whole}
-use Rattle.tokens.specs.declared.Whole.TheVariants.{Fine, Refused as Bad}
+use Rattle.tokens.specs.Results.{Step}
+use Rattle.tokens.specs.Results.{Whole}
 use Rattle.tokens.specs.Words.{code_of}
 use Rattle.tokens.specs.Blanks.{skip_all}
 use Rattle.tokens.specs.Rules.{token_at, refused, pair_at}
@@ -21,11 +19,11 @@ step_at s at = let a : ℕ = skip_all s at in cond (ltb a (length s)) (token_at 
 
 -- What the cases of a step say in document 01's numbers: a token as 0, its ends, its code and its word; a refusal as its number and place, and zeros
 unfoldable pub step_numbers : Step → List ℕ
-step_numbers (Taken w a next) = 0 ∷ a ∷ next.at ∷ code_of w ∷ w ∷ []
-step_numbers (Refused r) = r.number ∷ r.start ∷ r.end ∷ 0 ∷ 0 ∷ []
+step_numbers (Ok (w, a, next)) = 0 ∷ a ∷ next.at ∷ code_of w ∷ w ∷ []
+step_numbers (Err r) = r.number ∷ r.start ∷ r.end ∷ 0 ∷ 0 ∷ []
 
 abbrev pub bad : ℕ → ℕ → ℕ → Whole
-bad n a e = Bad (record { number = n; start = a; end = e })
+bad n a e = Err (record { number = n; start = a; end = e })
 
 -- "1, 2, 3 are tested first, in that order": longer than 65,535; the first byte of 128 or more; a source that begins `#!`
 unfoldable pub whole_of : List ℕ → Whole
@@ -34,7 +32,7 @@ whole_of s =
     cond (ltb 65535 (length s)) (bad 1 65535 65535)
     (cond (ltb high (length s)) (bad 2 high (high + 1))
     (cond (pair_at s 0 35 33) (bad 3 0 2)
-    Fine))
+    (Ok tt)))
 
 -- the tokens from a place on, and the refusal at which they end: 11 where the source does
 pub record Listed : Type 0 where
@@ -51,7 +49,7 @@ token_of w a next = record { code = code_of w; start = a; end = next.at }
 -- token after token; no more than n, and no source has more tokens than bytes
 unfoldable pub list_from : ℕ → List ℕ → ℕ → Listed
 list_from zero s at = record { tokens = []; ending = record { number = 11; start = length s; end = length s } }
-list_from (suc n) s at = elim (step_at s at) [ Taken w a next ↦ more (token_of w a next) (list_from n s next.at) | Refused r ↦ record { tokens = []; ending = r } ]
+list_from (suc n) s at = elim (step_at s at) [ Ok (w, a, next) ↦ more (token_of w a next) (list_from n s next.at) | Err r ↦ record { tokens = []; ending = r } ]
 
 unfoldable pub list_of : List ℕ → Listed
 list_of s = list_from (length s + 1) s 0
@@ -69,13 +67,13 @@ ended len l room = cond (eqb l.ending.number 11) (counted len (length l.tokens) 
 
 -- where a step is the last
 unfoldable pub last_of : Step → ℕ → ℕ → ℕ → Answer
-last_of (Taken w a next) len count room = counted len count room
-last_of (Refused r) len count room = cond (eqb r.number 11) (counted len count room) (refusal r)
+last_of (Ok (w, a, next)) len count room = counted len count room
+last_of (Err r) len count room = cond (eqb r.number 11) (counted len count room) (refusal r)
 
 -- What the cases of `Whole` say in document 01's numbers: 1, 2 or 3 with its place, or the answer to what is read then
 abbrev pub unless : Whole → Answer → Answer
-unless Fine a = a
-unless (Bad r) a = refusal r
+unless (Ok tt) a = a
+unless (Err r) a = refusal r
 
 -- "(c) gives only 0 to 5 and 10" (proofs/Only.antt)
 abbrev pub is_given : ℕ → Bool

@@ -1,10 +1,10 @@
 // Document 01's lexer: from bytes to tokens. It follows lexer.rs, function by function.
 #![tactic(auto)]
 
-ghost use Rattle.std.specs.Prelude.{◌≡◌, true, false, cond, ◌+◌, ◌≤◌, ◌<◌, length, eqb};
+ghost use Rattle.std.specs.Prelude.{Some, None, Ok, Err, ◌≡◌, true, false, cond, ◌+◌, ◌≤◌, ◌<◌, length, eqb};
 ghost use Rattle.chars.specs.Chars.{is_blank, byte_at};
 ghost use Rattle.chars.specs.Runs.{past_span};
-ghost use Rattle.tokens.specs.declared.Step.{Step};
+ghost use Rattle.tokens.specs.Results.{Step};
 ghost use Rattle.tokens.specs.Words.{code_of, two_sign, one_sign};
 ghost use Rattle.tokens.specs.Blanks.{past_comment, skip_all};
 ghost use Rattle.tokens.specs.Rules.{pair_at, colons_at, fraction_at, dotted_at, three_at, decimal_group, ipv6_at, period_at, ipv4_at, two_at, one_at, as_at, hex_at, number_at, goes_on, escapes, quote_at, is_name_start, name_at, token_at, or_else, taken, refused};
@@ -18,21 +18,48 @@ pub mod word;
 // How many bytes of a text are tested at once.
 const TEXT_BLOCK: usize = 16;
 
+// Bytes that the rules ask for, of the type in which a place is read.
+const BACKSLASH: u16 = b'\\' as u16;
+
+const CHAR_QUOTE: u16 = b'\'' as u16;
+
+const COLON: u16 = b':' as u16;
+
+const PERIOD: u16 = b'.' as u16;
+
+const SLASH: u16 = b'/' as u16;
+
+const SPACE: u16 = b' ' as u16;
+
+const STRING_QUOTE: u16 = b'"' as u16;
+
+const UNDERSCORE: u16 = b'_' as u16;
+
+// The first number that is no byte: what stands past the end.
+const NO_BYTE: u16 = 256;
+
+// The codes of words that are no literals: the numbers of their rules.
+const TWO_SIGNS: u64 = 3;
+
+const ONE_SIGN: u64 = 4;
+
+const KEYWORD: u64 = 11;
+
 // A place in a source. A step hands back the next.
-#[derive(Clone, Copy)]
+#[derive(Clone, Copy, Debug, PartialEq, Eq)]
 pub struct Cursor {
     pub at: usize,
 }
 
 #[repr(C)]
-#[derive(Clone, Copy)]
+#[derive(Clone, Copy, Debug, PartialEq, Eq)]
 pub struct Token {
     pub code: u64,
     pub start: usize,
     pub end: usize,
 }
 
-#[derive(Clone, Copy)]
+#[derive(Clone, Copy, Debug, PartialEq, Eq)]
 pub struct Refusal {
     pub number: u64,
     pub start: usize,
@@ -40,33 +67,17 @@ pub struct Refusal {
 }
 
 // A token, its word and where it starts, with the next cursor, where it ends; or a refusal: 4, 5, and 11 at the end.
-#[derive(Clone, Copy)]
-pub enum Step {
-    Taken(u64, usize, Cursor),
-    Refused(Refusal),
-}
+pub type Step = Result<(u64, usize, Cursor), Refusal>;
 
 // How far a rule reaches, and the word it has found there.
-#[derive(Clone, Copy)]
-pub enum Fit {
-    To(usize, u64),
-    No,
-}
-
-// What is said of a source before it is read.
-#[derive(Clone, Copy)]
-pub enum Whole {
-    Fine,
-    Refused(Refusal),
-}
+pub type Fit = Option<(usize, u64)>;
 
 // Two bytes stand at a place.
-fn pair_at(s: &[u8], at: usize, a: u16, b: u16) -> bool
-    requires { a < 256 }
+fn pair_at(s: &[u8], at: usize, a: u8, b: u8) -> bool
     ensures { result ≡ pair_at s.now at a b }
 {
-    if chars::byte_at(s, at) == a {
-        chars::byte_at(s, at + 1) == b
+    if chars::byte_at(s, at) == u16::from(a) {
+        chars::byte_at(s, at + 1) == u16::from(b)
     } else {
         false
     }
@@ -84,12 +95,13 @@ fn past_comment(s: &[u8], at: usize) -> usize
 fn is_solid(b: u16) -> bool
     ensures { result ≡ true → (is_blank b ≡ false) × (eqb b 47 ≡ false) }
 {
-    if b <= 32 {
+    if b <= SPACE {
         return false;
     }
-    b != 47
+    b != SLASH
 }
 
+// kept: no `for`, since a turn goes on behind a whole comment.
 fn skip_whitespace(s: &[u8], at: usize) -> usize
     ensures { result ≡ skip_all s.now at }
 {
@@ -97,7 +109,7 @@ fn skip_whitespace(s: &[u8], at: usize) -> usize
         return at;
     }
     let mut i = chars::past(s, at, Class::Blank);
-    while pair_at(s, i, 47, 47) {
+    while pair_at(s, i, b'/', b'/') {
         i = chars::past(s, past_comment(s, i), Class::Blank);
     }
     i
@@ -108,21 +120,21 @@ fn colons(s: &[u8], at: usize) -> Fit
     ensures { result ≡ colons_at s.now at }
 {
     let a = chars::past(s, at, Class::HexDigit);
-    if chars::byte_at(s, a) != 58 {
-        return Fit::No;
+    if chars::byte_at(s, a) != COLON {
+        return None;
     }
     let b = chars::past(s, a + 1, Class::HexDigit);
-    if chars::byte_at(s, b) != 58 {
-        return Fit::No;
+    if chars::byte_at(s, b) != COLON {
+        return None;
     }
-    Fit::To(chars::past(s, b + 1, Class::HexColon), word::IPV6)
+    Some((chars::past(s, b + 1, Class::HexColon), word::IPV6))
 }
 
 // `.` and a digit.
 fn fraction_at(s: &[u8], at: usize) -> bool
     ensures { result ≡ fraction_at s.now at }
 {
-    if chars::byte_at(s, at) == 46 {
+    if chars::byte_at(s, at) == PERIOD {
         chars::is_digit(chars::byte_at(s, at + 1))
     } else {
         false
@@ -134,21 +146,17 @@ fn dotted(s: &[u8], at: usize) -> Fit
     ensures { result ≡ dotted_at s.now at }
 {
     if fraction_at(s, at) {
-        return Fit::To(chars::past(s, at + 1, Class::Digit), word::IPV6);
+        return Some((chars::past(s, at + 1, Class::Digit), word::IPV6));
     }
-    Fit::No
+    None
 }
 
 // Three times a period with digits.
 fn three_dotted(s: &[u8], at: usize) -> Fit
     ensures { result ≡ three_at s.now at }
 {
-    let Fit::To(a, _) = dotted(s, at) else {
-        return Fit::No;
-    };
-    let Fit::To(b, _) = dotted(s, a) else {
-        return Fit::No;
-    };
+    let (a, _) = dotted(s, at)?;
+    let (b, _) = dotted(s, a)?;
     dotted(s, b)
 }
 
@@ -156,7 +164,7 @@ fn three_dotted(s: &[u8], at: usize) -> Fit
 fn decimal_group(s: &[u8], end: usize) -> bool
     ensures { result ≡ decimal_group s.now end }
 {
-    let group = chars::behind_last(s, end, 58);
+    let group = chars::behind_last(s, end, COLON);
     if group < end {
         chars::past(s, group, Class::Digit) == end
     } else {
@@ -168,16 +176,14 @@ fn decimal_group(s: &[u8], end: usize) -> bool
 fn ipv6(s: &[u8], at: usize) -> Fit
     ensures { result ≡ ipv6_at s.now at }
 {
-    let Fit::To(end, _) = colons(s, at) else {
-        return Fit::No;
-    };
-    let Fit::To(fourth, _) = three_dotted(s, end) else {
-        return Fit::To(end, word::IPV6);
+    let (end, _) = colons(s, at)?;
+    let Some((fourth, _)) = three_dotted(s, end) else {
+        return Some((end, word::IPV6));
     };
     if decimal_group(s, end) {
-        Fit::To(fourth, word::IPV6)
+        Some((fourth, word::IPV6))
     } else {
-        Fit::To(end, word::IPV6)
+        Some((end, word::IPV6))
     }
 }
 
@@ -187,28 +193,23 @@ fn period(s: &[u8], at: usize) -> Fit
 {
     if chars::is_digit(chars::byte_at(s, at)) {
         let end = chars::past(s, at, Class::Digit);
-        if chars::byte_at(s, end) == 46 {
-            return Fit::To(end + 1, word::IPV4);
+        if chars::byte_at(s, end) == PERIOD {
+            return Some((end + 1, word::IPV4));
         }
     }
-    Fit::No
+    None
 }
 
 fn ipv4(s: &[u8], at: usize) -> Fit
     ensures { result ≡ ipv4_at s.now at }
 {
-    let Fit::To(a, _) = period(s, at) else {
-        return Fit::No;
-    };
-    let Fit::To(b, _) = period(s, a) else {
-        return Fit::No;
-    };
-    let Fit::To(c, _) = period(s, b) else {
-        return Fit::No;
-    };
-    Fit::To(chars::past(s, c, Class::Digit), word::IPV4)
+    let (a, _) = period(s, at)?;
+    let (b, _) = period(s, a)?;
+    let (c, _) = period(s, b)?;
+    Some((chars::past(s, c, Class::Digit), word::IPV4))
 }
 
+// kept: in these four functions NONE and no Option, since 0 is what the definitions say of other bytes (specs/Words.antt, two_sign and one_sign).
 // `== != <= >= += -= *= /= %=`: the word of a sign that `=` stands behind.
 fn sign_equals(a: u8) -> u64
     ensures { result ≡ two_sign a 61 }
@@ -258,16 +259,13 @@ fn two_sign(a: u8, b: u8) -> u64
 fn two_char_punctuation(s: &[u8], at: usize) -> Fit
     ensures { result ≡ two_at s.now at }
 {
-    if at < s.len() {
-        let second = at + 1;
-        if second < s.len() {
-            let word = two_sign(s[at], s[second]);
-            if word != word::NONE {
-                return Fit::To(at + 2, word);
-            }
+    if at < s.len() && at + 1 < s.len() {
+        let word = two_sign(s[at], s[at + 1]);
+        if word != word::NONE {
+            return Some((at + 2, word));
         }
     }
-    Fit::No
+    None
 }
 
 fn one_sign(b: u8) -> u64
@@ -304,30 +302,30 @@ fn one_char_punctuation(s: &[u8], at: usize) -> Fit
     if at < s.len() {
         let word = one_sign(s[at]);
         if word != word::NONE {
-            return Fit::To(at + 1, word);
+            return Some((at + 1, word));
         }
     }
-    Fit::No
+    None
 }
 
 fn as_number(s: &[u8], at: usize) -> Fit
     ensures { result ≡ as_at s.now at }
 {
-    if pair_at(s, at, 65, 83) {
+    if pair_at(s, at, b'A', b'S') {
         if chars::is_digit(chars::byte_at(s, at + 2)) {
-            return Fit::To(chars::past(s, at + 2, Class::Digit), word::ASN);
+            return Some((chars::past(s, at + 2, Class::Digit), word::ASN));
         }
     }
-    Fit::No
+    None
 }
 
 fn hex_number(s: &[u8], at: usize) -> Fit
     ensures { result ≡ hex_at s.now at }
 {
-    if pair_at(s, at, 48, 120) {
-        Fit::To(chars::past(s, at + 2, Class::HexDigit), word::HEX)
+    if pair_at(s, at, b'0', b'x') {
+        Some((chars::past(s, at + 2, Class::HexDigit), word::HEX))
     } else {
-        Fit::No
+        None
     }
 }
 
@@ -338,55 +336,34 @@ fn number(s: &[u8], at: usize) -> Fit
         let whole = chars::past(s, at, Class::Figure);
         if fraction_at(s, whole) {
             let end = chars::past(s, whole + 1, Class::Figure);
-            return Fit::To(chars::past(s, end, Class::NamePart), word::FLOAT);
+            return Some((chars::past(s, end, Class::NamePart), word::FLOAT));
         }
-        return Fit::To(chars::past(s, whole, Class::NamePart), word::INTEGER);
+        return Some((chars::past(s, whole, Class::NamePart), word::INTEGER));
     }
-    Fit::No
+    None
 }
 
 fn goes_on(quote: u16, escaped: bool, b: u16) -> bool
     ensures { result ≡ goes_on quote escaped b }
 {
-    (escaped | (b != quote)) & (b < 256)
-}
-
-// Whether the quote or a backslash stands in the block at a place.
-fn has_stop(s: &[u8], at: usize, quote: u8) -> bool
-    requires { at + 16 ≤ length s.now }
-    ensures { result ≡ false → past_span (goes_on quote) escapes false s.now (at + 16) ≡ past_span (goes_on quote) escapes false s.now at }
-{
-    let mut any = false;
-    for i in at..at + TEXT_BLOCK {
-        any = any | (s[i] == quote) | (s[i] == b'\\');
-    }
-    any
+    (escaped | (b != quote)) & (b < NO_BYTE)
 }
 
 // From a place on past the blocks that a text goes on through without a backslash.
 fn text_blocks(s: &[u8], at: usize, quote: u8) -> usize
     ensures { past_span (goes_on quote) escapes false s.now result ≡ past_span (goes_on quote) escapes false s.now at }
 {
-    if s.len() < at {
-        return at;
-    }
-    let mut i = at;
-    while i + TEXT_BLOCK <= s.len() {
-        if has_stop(s, i, quote) {
-            return i;
-        }
-        i += TEXT_BLOCK;
-    }
-    i
+    chars::past_blocks::<_, TEXT_BLOCK>(s, at, |b| (b == quote) | (b == b'\\'))
 }
 
 // The place of the first backslash from `at` on, or where the text ends before it.
+// kept: a `while` and no search by an iterator, since the text ends before the source does at its quote, or past it.
 fn plain_text(s: &[u8], at: usize, quote: u16) -> usize
     ensures lower_bound { (at ≤ result) × (past_span (goes_on quote) escapes false s.now result ≡ past_span (goes_on quote) escapes false s.now at) }
     ensures result_value { goes_on quote false (byte_at s.now result) ≡ true → byte_at s.now result ≡ 92 }
 {
     let mut i = at;
-    while goes_on(quote, false, chars::byte_at(s, i)) & (chars::byte_at(s, i) != 92) {
+    while goes_on(quote, false, chars::byte_at(s, i)) & (chars::byte_at(s, i) != BACKSLASH) {
         i += 1;
     }
     i
@@ -405,6 +382,7 @@ fn past_escape(s: &[u8], at: usize, quote: u16) -> usize
 }
 
 // The place of the quote that closes what starts at `at`, or the end.
+// kept: no `for`, since a turn goes on behind an escape and the plain text after it.
 fn closing(s: &[u8], at: usize, quote: u16) -> usize
     ensures { result ≡ past_span (goes_on quote) escapes false s.now at }
 {
@@ -422,19 +400,17 @@ fn quoted(s: &[u8], at: usize, quote: u16, word: u64) -> Fit
 {
     if chars::byte_at(s, at) == quote {
         let close = closing(s, text_blocks(s, at + 1, quote as u8), quote);
-        if close < s.len() {
-            if close + 1 < s.len() {
-                return Fit::To(close + 1, word);
-            }
+        if close < s.len() && close + 1 < s.len() {
+            return Some((close + 1, word));
         }
     }
-    Fit::No
+    None
 }
 
 fn is_name_start(b: u16) -> bool
     ensures { result ≡ is_name_start b }
 {
-    chars::is_letter(b) | (b == 95)
+    chars::is_letter(b) | (b == UNDERSCORE)
 }
 
 // The keyword or name that begins at a place, and where it ends.
@@ -443,9 +419,9 @@ pub fn keyword_or_ident(s: &[u8], at: usize) -> Fit
 {
     if is_name_start(chars::byte_at(s, at)) {
         let end = chars::past_name(s, at + 1);
-        Fit::To(end, keywords::name_word(&s[at..end]))
+        Some((end, keywords::name_word(&s[at..end])))
     } else {
-        Fit::No
+        None
     }
 }
 
@@ -453,31 +429,25 @@ pub fn keyword_or_ident(s: &[u8], at: usize) -> Fit
 pub fn code_of(word: u64) -> u64
     ensures { result ≡ code_of word }
 {
-    if 60 <= word {
-        return 11;
+    match word {
+        word::ACCEPT.. => KEYWORD,
+        word::CURLY_LEFT.. => ONE_SIGN,
+        word::EQ_EQ.. => TWO_SIGNS,
+        word::UNDERSCORE => word::NAME,
+        _ => word,
     }
-    if 40 <= word {
-        return 4;
-    }
-    if 20 <= word {
-        return 3;
-    }
-    if word == 14 {
-        return 13;
-    }
-    word
 }
 
 fn bump(start: usize, end: usize, word: u64) -> Step
     ensures { result ≡ taken start end word }
 {
-    Step::Taken(word, start, Cursor { at: end })
+    Ok((word, start, Cursor { at: end }))
 }
 
 fn refuse(number: u64, start: usize, end: usize) -> Step
     ensures { result ≡ refused number start end }
 {
-    Step::Refused(Refusal { number, start, end })
+    Err(Refusal { number, start, end })
 }
 
 // 1, where the first byte allows it: an address begins with a hex digit or `:`.
@@ -487,45 +457,36 @@ fn address(s: &[u8], at: usize) -> Fit
     if chars::is_class(Class::HexColon, chars::byte_at(s, at)) {
         return ipv6(s, at);
     }
-    Fit::No
+    None
 }
 
 // 2, 6, 7 and 8, which begin with a digit.
 fn figures(s: &[u8], at: usize) -> Fit
     ensures { (later : Step) → or_else at result later ≡ or_else at (ipv4_at s.now at) (or_else at (hex_at s.now at) (or_else at (number_at s.now at) later)) }
 {
-    let fit = ipv4(s, at);
-    if let Fit::To(_, _) = fit {
-        return fit;
-    }
-    let fit = hex_number(s, at);
-    if let Fit::To(_, _) = fit {
-        return fit;
-    }
-    number(s, at)
+    ipv4(s, at)
+        .or_else(|| hex_number(s, at))
+        .or_else(|| number(s, at))
 }
 
 // 3 and 4, the signs.
 fn signs(s: &[u8], at: usize) -> Fit
     ensures { (later : Step) → or_else at result later ≡ or_else at (two_at s.now at) (or_else at (one_at s.now at) later) }
 {
-    let fit = two_char_punctuation(s, at);
-    if let Fit::To(_, _) = fit {
-        return fit;
-    }
-    one_char_punctuation(s, at)
+    two_char_punctuation(s, at).or_else(|| one_char_punctuation(s, at))
 }
 
 // 5 and 11 to 13, which begin with a letter or `_`; between them `f"`, which is no token.
+// kept: no `or_else`, since what is asked then is a choice of its own.
 fn letters(s: &[u8], at: usize) -> Fit
     ensures { or_else at result (cond (pair_at s.now at 102 34) (refused 5 at (at + 2)) (refused 4 at (at + 1))) ≡ or_else at (as_at s.now at) (cond (pair_at s.now at 102 34) (refused 5 at (at + 2)) (or_else at (name_at s.now at) (refused 4 at (at + 1)))) }
 {
     let fit = as_number(s, at);
-    if let Fit::To(_, _) = fit {
+    if let Some(_) = fit {
         return fit;
     }
-    if pair_at(s, at, 102, 34) {
-        return Fit::No;
+    if pair_at(s, at, b'f', b'"') {
+        return None;
     }
     keyword_or_ident(s, at)
 }
@@ -535,7 +496,7 @@ fn text(s: &[u8], at: usize, quote: u16) -> Fit
     requires { quote < 256 }
     ensures { result ≡ quote_at quote (cond (eqb quote 34) 9 10) s.now at }
 {
-    let word = if quote == 34 {
+    let word = if quote == STRING_QUOTE {
         word::STRING
     } else {
         word::CHAR
@@ -544,11 +505,12 @@ fn text(s: &[u8], at: usize, quote: u16) -> Fit
 }
 
 // The first rule that fits, of those that begin with the byte at a place: each rule is asked in one place, so that it is compiled into it.
+// kept: no `or_else`, since what is asked then is a choice among five.
 fn fit_at(s: &[u8], at: usize) -> Fit
     ensures { or_else at result (cond (pair_at s.now at 102 34) (refused 5 at (at + 2)) (refused 4 at (at + 1))) ≡ token_at s.now at }
 {
     let fit = address(s, at);
-    if let Fit::To(_, _) = fit {
+    if let Some(_) = fit {
         return fit;
     }
     let b = chars::byte_at(s, at);
@@ -558,7 +520,7 @@ fn fit_at(s: &[u8], at: usize) -> Fit
     if chars::is_digit(b) {
         return figures(s, at);
     }
-    if (b == 34) | (b == 39) {
+    if (b == STRING_QUOTE) | (b == CHAR_QUOTE) {
         return text(s, at, b);
     }
     signs(s, at)
@@ -569,7 +531,7 @@ fn no_token(s: &[u8], at: usize) -> Step
     requires { at < length s.now }
     ensures { result ≡ cond (pair_at s.now at 102 34) (refused 5 at (at + 2)) (refused 4 at (at + 1)) }
 {
-    if pair_at(s, at, 102, 34) {
+    if pair_at(s, at, b'f', b'"') {
         return refuse(refusal::F_STRING, at, at + 2);
     }
     refuse(refusal::NO_TOKEN, at, at + 1)
@@ -580,7 +542,7 @@ fn next_token(s: &[u8], at: usize) -> Step
     requires { at < length s.now }
     ensures { result ≡ token_at s.now at }
 {
-    if let Fit::To(end, word) = fit_at(s, at) {
+    if let Some((end, word)) = fit_at(s, at) {
         return bump(at, end, word);
     }
     no_token(s, at)
@@ -606,14 +568,14 @@ impl Cursor {
     }
 }
 
-fn refuse_source(number: u64, start: usize, end: usize) -> Whole
+fn refuse_source(number: u64, start: usize, end: usize) -> Result<(), Refusal>
     ensures { result ≡ bad number start end }
 {
-    Whole::Refused(Refusal { number, start, end })
+    Err(Refusal { number, start, end })
 }
 
 // What is refused of a source as a whole, before a token of it is read.
-pub fn check_source(s: &[u8]) -> Whole
+pub fn check_source(s: &[u8]) -> Result<(), Refusal>
     ensures { (result ≡ whole_of s.now) × (unless result ≡ unless (whole_of s.now)) }
 {
     if MOST_BYTES < s.len() {
@@ -623,10 +585,10 @@ pub fn check_source(s: &[u8]) -> Whole
     if high < s.len() {
         return refuse_source(refusal::HIGH_BYTE, high, high + 1);
     }
-    if pair_at(s, 0, 35, 33) {
+    if pair_at(s, 0, b'#', b'!') {
         return refuse_source(refusal::SHEBANG, 0, 2);
     }
-    Whole::Fine
+    Ok(())
 }
 
 fn refused_answer(r: Refusal) -> Answer
@@ -664,7 +626,7 @@ fn counted_answer(size: usize, count: usize, room: usize) -> Answer
 fn last_answer(step: Step, size: usize, count: usize, room: usize) -> Answer
     ensures { result ≡ last_of step size count room }
 {
-    let Step::Refused(r) = step else {
+    let Err(r) = step else {
         return counted_answer(size, count, room);
     };
     if r.number == refusal::ENDS_EARLY {
@@ -677,14 +639,14 @@ fn last_answer(step: Step, size: usize, count: usize, room: usize) -> Answer
 pub fn count_tokens(s: &[u8], room: usize) -> Answer
     ensures { result ≡ answer_of s.now room }
 {
-    if let Whole::Refused(r) = check_source(s) {
+    if let Err(r) = check_source(s) {
         return refused_answer(r);
     }
     let mut cursor = Cursor::new();
     let mut count: usize = 0;
     loop {
         let step = cursor.step(s);
-        let Step::Taken(_, _, next) = step else {
+        let Ok((_, _, next)) = step else {
             return last_answer(step, s.len(), count, room);
         };
         cursor = next;

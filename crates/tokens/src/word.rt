@@ -1,4 +1,5 @@
 // The words' numbers, by the Rust's names: which sign, which keyword or which other word a token is (specs/Words.antt).
+// kept: numbers and no enum, since the grammar's table and its theorems speak of these numbers, and the C interface hands them out.
 
 // No word stands here, or the source ends.
 pub const NONE: u64 = 0;

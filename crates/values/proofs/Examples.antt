@@ -1,5 +1,6 @@
 -- Worked pairs 2 to 9 of document 01, 4, 5 and 8 as document 02 changes them (C-12, C-16), as far as they concern values, and the examples of
 -- RFC 4291 section 2.2: one table under one statement, by computation.
+use Rattle.std.specs.Prelude.{Some, None}
 use mathlib.Core.Path.{◌≡◌, refl}
 use mathlib.Core.List.{List, [], ◌∷◌}
 use mathlib.Core.Option.{some}
@@ -15,13 +16,13 @@ use Rattle.addresses.specs.Addresses.{exactly, octets_of, quad_of, gap, side_of,
 use Rattle.strings.specs.Escapes.{piece_of}
 use Rattle.strings.specs.Strings.{codes_from, measure_of, is_quoted, size_of}
 use Rattle.strings.specs.Utf8.{utf8, encode}
-use Rattle.values.specs.declared.Literal.{Literal}
+use Rattle.values.specs.Results.{Worth}
 use Rattle.values.specs.Literals.{literal_of}
 
 record Pair : Type 0 where
   code : ℕ
   text : String
-  row : Literal
+  row : Worth
 
 record Written : Type 0 where
   text : String
@@ -37,14 +38,14 @@ Means (w ∷ ws) = (groups_of (bytes w.text) ≡ some w.groups) × Means ws
 
 abbrev pairs : List Pair
 pairs =
-    record { code = 5; text = "AS4294967295"; row = Literal.Is 13 4294967295 0 }
-    ∷ record { code = 5; text = "AS4294967296"; row = Literal.None }
-    ∷ record { code = 7; text = "18446744073709551615u64"; row = Literal.Is 10 18446744073709551615 8 }
-    ∷ record { code = 7; text = "300u8"; row = Literal.None }
-    ∷ record { code = 2; text = "1.2.3."; row = Literal.None }
-    ∷ record { code = 1; text = "::1"; row = Literal.Is 15 0 1 }
-    ∷ record { code = 1; text = "::ffff:1.2.3.4"; row = Literal.Is 15 0 281470698652420 }
-    ∷ record { code = 9; text = "\"a\""; row = Literal.Is 16 0 0 }
+    record { code = 5; text = "AS4294967295"; row = Some (record { kind = 13; value = 4294967295; detail = 0 }) }
+    ∷ record { code = 5; text = "AS4294967296"; row = None }
+    ∷ record { code = 7; text = "18446744073709551615u64"; row = Some (record { kind = 10; value = 18446744073709551615; detail = 8 }) }
+    ∷ record { code = 7; text = "300u8"; row = None }
+    ∷ record { code = 2; text = "1.2.3."; row = None }
+    ∷ record { code = 1; text = "::1"; row = Some (record { kind = 15; value = 0; detail = 1 }) }
+    ∷ record { code = 1; text = "::ffff:1.2.3.4"; row = Some (record { kind = 15; value = 0; detail = 281470698652420 }) }
+    ∷ record { code = 9; text = "\"a\""; row = Some (record { kind = 16; value = 0; detail = 0 }) }
     ∷ []
 
 abbrev addresses : List Written

@@ -2,149 +2,141 @@
 #![tactic(auto)]
 
 ghost use Rattle.std.specs.Prelude.{◌≡◌};
-ghost use Rattle.values.specs.Literals.{from_amount, from_number, from_quad, from_address, from_size, from_point, bool_of, literal_of, literal_at, literal_numbers};
+ghost use Rattle.values.specs.Literals.{from_amount, from_value, from_number, from_address, from_size, bool_of, literal_of, literal_at, literal_numbers};
 
-use addresses::{Address, Quad};
-use numbers::{Amount, Number};
+use addresses::Wide;
+use numbers::Amount;
 use rows::kind;
-use strings::{Point, Size};
+
+// The codes of the tokens that are literals.
+const IPV6: u64 = 1;
+
+const IPV4: u64 = 2;
+
+const ASN: u64 = 5;
+
+const HEX: u64 = 6;
+
+const INTEGER: u64 = 7;
+
+const FLOAT: u64 = 8;
+
+const STRING: u64 = 9;
+
+const CHAR: u64 = 10;
+
+const BOOL: u64 = 12;
 
 // A literal's row: its kind, its value and its detail.
-#[derive(Clone, Copy)]
-pub enum Literal {
-    Is { kind: u64, value: u64, detail: u64 },
-    None,
+#[derive(Debug, Clone, Copy, PartialEq, Eq)]
+pub struct Literal {
+    pub kind: u64,
+    pub value: u64,
+    pub detail: u64,
 }
 
-fn from_amount(a: Amount) -> Literal
+fn from_amount(a: Option<Amount>) -> Option<Literal>
     ensures { result ≡ from_amount a }
 {
-    match a {
-        Amount::Integer { value, suffix } => Literal::Is {
+    match a? {
+        Amount::Integer { value, suffix } => Some(Literal {
             kind: kind::INTEGER,
             value,
             detail: suffix,
-        },
-        Amount::Float(suffix) => Literal::Is {
+        }),
+        Amount::Float(suffix) => Some(Literal {
             kind: kind::FLOAT,
             value: 0,
             detail: suffix,
-        },
-        Amount::None => Literal::None,
+        }),
     }
 }
 
-fn from_number(kind: u64, n: Number) -> Literal
+// A row that has a value and no detail.
+fn from_value(kind: u64, value: Option<u64>) -> Option<Literal>
+    ensures { result ≡ from_value kind value }
+{
+    Some(Literal {
+        kind,
+        value: value?,
+        detail: 0,
+    })
+}
+
+fn from_number(kind: u64, n: Option<(u64, usize)>) -> Option<Literal>
     ensures { result ≡ from_number kind n }
 {
-    match n {
-        Number::Is { value, digits: _ } => Literal::Is {
-            kind,
-            value,
-            detail: 0,
-        },
-        Number::None => Literal::None,
-    }
+    let (value, _) = n?;
+    Some(Literal {
+        kind,
+        value,
+        detail: 0,
+    })
 }
 
-fn from_quad(q: Quad) -> Literal
-    ensures { result ≡ from_quad q }
-{
-    match q {
-        Quad::Is(value) => Literal::Is {
-            kind: kind::IPV4,
-            value,
-            detail: 0,
-        },
-        Quad::None => Literal::None,
-    }
-}
-
-fn from_address(a: Address) -> Literal
+fn from_address(a: Option<Wide>) -> Option<Literal>
     ensures { result ≡ from_address a }
 {
-    match a {
-        Address::Is { high, low } => Literal::Is {
-            kind: kind::IPV6,
-            value: high,
-            detail: low,
-        },
-        Address::None => Literal::None,
-    }
+    let Wide { high, low } = a?;
+    Some(Literal {
+        kind: kind::IPV6,
+        value: high,
+        detail: low,
+    })
 }
 
-fn from_size(n: Size) -> Literal
+fn from_size(n: Option<usize>) -> Option<Literal>
     ensures { result ≡ from_size n }
 {
-    match n {
-        Size::Is(_) => Literal::Is {
-            kind: kind::STRING,
-            value: 0,
-            detail: 0,
-        },
-        Size::None => Literal::None,
-    }
+    n?;
+    Some(Literal {
+        kind: kind::STRING,
+        value: 0,
+        detail: 0,
+    })
 }
 
-fn from_point(p: Point) -> Literal
-    ensures { result ≡ from_point p }
-{
-    match p {
-        Point::Is(value) => Literal::Is {
-            kind: kind::CHAR,
-            value,
-            detail: 0,
-        },
-        Point::None => Literal::None,
-    }
-}
-
-fn bool_of(t: &[u8]) -> Literal
+fn bool_of(t: &[u8]) -> Option<Literal>
     ensures { result ≡ bool_of t.now }
 {
     if chars::same(t, b"true") {
-        return Literal::Is {
+        return Some(Literal {
             kind: kind::BOOL,
             value: 1,
             detail: 0,
-        };
+        });
     }
     if chars::same(t, b"false") {
-        return Literal::Is {
+        return Some(Literal {
             kind: kind::BOOL,
             value: 0,
             detail: 0,
-        };
+        });
     }
-    Literal::None
+    None
 }
 
 // The value of a whole text that a token of a code has.
-fn of_text(code: u64, t: &[u8]) -> Literal
+fn of_text(code: u64, t: &[u8]) -> Option<Literal>
     ensures { result ≡ literal_of code t.now }
 {
     match code {
-        1 => from_address(addresses::ipv6(t)),
-        2 => from_quad(addresses::ipv4(t)),
-        5 => from_number(kind::ASN, numbers::as_number(t)),
-        6 => from_number(kind::INTEGER, numbers::hex(t)),
-        7 => from_amount(numbers::integer(t)),
-        8 => from_amount(numbers::float(t)),
-        9 => from_size(strings::string(t)),
-        10 => from_point(strings::char_of(t)),
-        12 => bool_of(t),
-        _ => Literal::None,
+        IPV6 => from_address(addresses::ipv6(t)),
+        IPV4 => from_value(kind::IPV4, addresses::ipv4(t)),
+        ASN => from_number(kind::ASN, numbers::as_number(t)),
+        HEX => from_number(kind::INTEGER, numbers::hex(t)),
+        INTEGER => from_amount(numbers::integer(t)),
+        FLOAT => from_amount(numbers::float(t)),
+        STRING => from_size(strings::string(t)),
+        CHAR => from_value(kind::CHAR, strings::char_of(t)),
+        BOOL => bool_of(t),
+        _ => None,
     }
 }
 
 // The value of the token of a code from start to end; none where the source has no such part.
-pub fn literal_at(s: &[u8], code: u64, start: usize, end: usize) -> Literal
+pub fn literal_at(s: &[u8], code: u64, start: usize, end: usize) -> Option<Literal>
     ensures { (result ≡ literal_at code start end s.now) × (literal_numbers result ≡ literal_numbers (literal_at code start end s.now)) }
 {
-    if start <= end {
-        if end <= s.len() {
-            return of_text(code, &s[start..end]);
-        }
-    }
-    Literal::None
+    of_text(code, s.get(start..end)?)
 }

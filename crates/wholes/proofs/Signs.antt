@@ -1,11 +1,11 @@
 -- The sign of a number, its magnitude, and quotients by them.
-use Rattle.std.proofs.Common.{◌≡◌, ℕ, suc, ◌+◌, ◌-◌, ◌/◌, ◌%◌, ◌^◌, ◌<◌, ◌≤◌, Bool, true, false, cond, not, ◌&&◌, T, eqb, ltb, leb, ℤ, pos, negsuc, ◌-ℤ◌, neg_ℤ, nat_abs, sym, refl, ap, ◌∙◌, lt_of_lt_of_le, mod-lt, mod-eq_of_lt, arith, lit≤, leb→le, ltb-false, ltb-true, le-ltb, lt-ltb, eq-eqb, ne_eqb, le-leb, leb-false, leb-true}
+use Rattle.std.proofs.Common.{◌≡◌, ℕ, suc, ◌+◌, ◌-◌, ◌/◌, ◌%◌, ◌^◌, ◌<◌, ◌≤◌, Bool, true, false, cond, not, ◌&&◌, T, eqb, ltb, leb, ℤ, pos, negsuc, ◌-ℤ◌, neg_ℤ, nat_abs, sym, refl, ap, ◌∙◌, lt_of_lt_of_le, mod-lt, mod-eq_of_lt, arith, lit≤, leb→le, ltb-false, ltb-true, le-ltb, lt-ltb, eq-eqb, ne_eqb, le-leb, leb-false, leb-true, Some, None, ◌⊎◌, inl, inr}
 use borrow.Author.Tests.{lt-leb}
+use mathlib.Core.Bool.{beq}
 use lib.IntN.{+ℤ_idl}
 use lib.Signed.{non_neg, quot_z, rem_z, lt_z}
 use Rattle.wholes.specs.Wholes.{lowest, standing, number, signed_of, span, or_none, quotient_of, remainder_of}
 use Rattle.wholes.specs.declared.Integer.{Integer}
-use Rattle.wholes.specs.declared.Part.{Part}
 use Rattle.wholes.proofs.Laws.{some, opposite}
 
 pub cut : (t u : Integer) (x : ℕ) → t ≡ u → x % span u ≡ x % span t
@@ -28,17 +28,22 @@ halved h p = go (leb h p) refl where
   go false e = sym (lt-leb (h + h) (p + p) (omega (arith, leb-false h p e)))
 
 -- a type with a sign: below zero from half of its span on
-pub below : (t u : Integer) (a h : ℕ) → t ≡ u → signed_of u ≡ true → h + h ≡ span u → leb h (a % span u) ≡ not (non_neg (number t a))
+pub below : (t u : Integer) (a r h : ℕ) → t ≡ u → r ≡ a % span t → signed_of u ≡ true → h + h ≡ span u → leb h r ≡ not (non_neg (number t a))
 unfolding number
-below t u a h e s w =
-    halved h (a % span u) ∙ ap (λ (z : ℕ). leb z (a % span u + a % span u)) w ∙ ap (λ (b : Bool). b && leb (span u) (a % span u + a % span u)) (sym s)
+below t u a r h e f s w =
+    ap (λ (x : ℕ). leb h x) (f ∙ sym (cut t u a e)) ∙ halved h (a % span u) ∙ ap (λ (z : ℕ). leb z (a % span u + a % span u)) w ∙ ap (λ (b : Bool). b && leb (span u) (a % span u + a % span u)) (sym s)
     ∙ sym (signs (signed_of u) (span u) (a % span u)) ∙ ap (λ (v : Integer). not (non_neg (number v a))) (sym e)
 
-pub never : (t u : Integer) (a : ℕ) → t ≡ u → signed_of u ≡ false → false ≡ not (non_neg (number t a))
+pub unsigned : (t : Integer) → (t ≡ Integer.U8) ⊎ ((t ≡ Integer.U16) ⊎ ((t ≡ Integer.U32) ⊎ (t ≡ Integer.U64))) → signed_of t ≡ false
+unsigned t (inl e) = ap signed_of e
+unsigned t (inr (inl e)) = ap signed_of e
+unsigned t (inr (inr (inl e))) = ap signed_of e
+unsigned t (inr (inr (inr e))) = ap signed_of e
+
+pub never : (t : Integer) (a : ℕ) → signed_of t ≡ false → false ≡ not (non_neg (number t a))
 unfolding number
-never t u a e s =
-    ap (λ (b : Bool). b && leb (span u) (a % span u + a % span u)) (sym s)
-    ∙ sym (signs (signed_of u) (span u) (a % span u)) ∙ ap (λ (v : Integer). not (non_neg (number v a))) (sym e)
+never t a s =
+    ap (λ (b : Bool). b && leb (span t) (a % span t + a % span t)) (sym s) ∙ sym (signs (signed_of t) (span t) (a % span t))
 
 standing_under : (s : Bool) (m p : ℕ) → p < m → not (non_neg (standing s m p)) ≡ true → lowest m (neg_ℤ (standing s m p)) ≡ nat_abs (standing s m p)
 unfolding standing lowest
@@ -66,6 +71,24 @@ pub size_over : (t : Integer) (a : ℕ) → not (non_neg (number t a)) ≡ false
 unfolding number
 size_over t a e = standing_over (signed_of t) (span t) (a % span t) e
 
+-- ---- two signs that are told to be the same, or not
+
+pub same_sign : (x y : ℤ) {b c : Bool} → b ≡ not (non_neg x) → c ≡ not (non_neg y) → beq b c ≡ true → not (non_neg y) ≡ not (non_neg x)
+same_sign x y e f h = go (not (non_neg x)) (not (non_neg y)) ((λ i. beq (sym e i) (sym f i)) ∙ h) where
+  go : (b c : Bool) → beq b c ≡ true → c ≡ b
+  go true true h = refl
+  go true false h = cc
+  go false true h = cc
+  go false false h = refl
+
+pub other_sign : (x y : ℤ) {b c : Bool} → b ≡ not (non_neg x) → c ≡ not (non_neg y) → beq b c ≡ false → not (non_neg y) ≡ not (not (non_neg x))
+other_sign x y e f h = go (not (non_neg x)) (not (non_neg y)) ((λ i. beq (sym e i) (sym f i)) ∙ h) where
+  go : (b c : Bool) → beq b c ≡ false → c ≡ not b
+  go true true h = cc
+  go true false h = refl
+  go false true h = refl
+  go false false h = cc
+
 -- ---- quotients
 
 quot_alike : (m : ℕ) (x y : ℤ) (b : Bool) → not (non_neg x) ≡ b → not (non_neg y) ≡ b → nat_abs x / nat_abs y % m ≡ lowest m (quot_z x y)
@@ -92,43 +115,43 @@ rem_under : (m : ℕ) (x y : ℤ) → not (non_neg x) ≡ true → lowest m (neg
 rem_under m (pos n) y e = cc
 rem_under m (negsuc n) y e = refl
 
-some_part : (d n k : ℕ) → (d ≡ 0 → ⊥) → n ≡ k → Part.Of n ≡ or_none (eqb d 0) k
+some_part : (d n k : ℕ) → (d ≡ 0 → ⊥) → n ≡ k → Some n ≡ or_none (eqb d 0) k
 unfolding or_none
-some_part d n k h e = ap (λ (z : ℕ). Part.Of z) e ∙ ap (λ (b : Bool). or_none b k) (sym (ne_eqb d 0 h))
+some_part d n k h e = ap (λ (z : ℕ). Some z) e ∙ ap (λ (b : Bool). or_none b k) (sym (ne_eqb d 0 h))
 
-pub no_part : (d k : ℕ) → d ≡ 0 → Part.None ≡ or_none (eqb d 0) k
+pub no_part : (d k : ℕ) → d ≡ 0 → None ≡ or_none (eqb d 0) k
 unfolding or_none
 no_part d k e = ap (λ (b : Bool). or_none b k) (sym (eq-eqb d 0 e))
 
 module _ (t : Integer) (a b d n : ℕ) (D : d ≡ nat_abs (number t b)) (N : n ≡ nat_abs (number t a)) where
-  pub no_quotient : d ≡ 0 → Part.None ≡ quotient_of t a b
+  pub no_quotient : d ≡ 0 → None ≡ quotient_of t a b
   unfolding quotient_of
   no_quotient e = no_part (nat_abs (number t b)) (lowest (span t) (quot_z (number t a) (number t b))) (sym D ∙ e)
 
-  pub no_remainder : d ≡ 0 → Part.None ≡ remainder_of t a b
+  pub no_remainder : d ≡ 0 → None ≡ remainder_of t a b
   unfolding remainder_of
   no_remainder e = no_part (nat_abs (number t b)) (lowest (span t) (rem_z (number t a) (number t b))) (sym D ∙ e)
 
   module _ (h : d ≡ 0 → ⊥) (r : ℕ) where
-    pub alike : (s : Bool) → not (non_neg (number t a)) ≡ s → not (non_neg (number t b)) ≡ s → r ≡ n / d % span t → Part.Of r ≡ quotient_of t a b
+    pub alike : (s : Bool) → not (non_neg (number t a)) ≡ s → not (non_neg (number t b)) ≡ s → r ≡ n / d % span t → Some r ≡ quotient_of t a b
     unfolding quotient_of
     alike s e f w =
         some_part (nat_abs (number t b)) r (lowest (span t) (quot_z (number t a) (number t b))) (λ z. h (D ∙ z))
         (w ∙ (λ i. N i / D i % span t) ∙ quot_alike (span t) (number t a) (number t b) s e f)
 
-    pub unlike : (s : Bool) → not (non_neg (number t a)) ≡ s → not (non_neg (number t b)) ≡ not s → r ≡ lowest (span t) (neg_ℤ (number t (n / d))) → Part.Of r ≡ quotient_of t a b
+    pub unlike : (s : Bool) → not (non_neg (number t a)) ≡ s → not (non_neg (number t b)) ≡ not s → r ≡ lowest (span t) (neg_ℤ (number t (n / d))) → Some r ≡ quotient_of t a b
     unfolding quotient_of
     unlike s e f w =
         some_part (nat_abs (number t b)) r (lowest (span t) (quot_z (number t a) (number t b))) (λ z. h (D ∙ z))
         (w ∙ opposite t (n / d) ∙ (λ i. lowest (span t) (neg_ℤ (pos (N i / D i)))) ∙ quot_unlike (span t) (number t a) (number t b) s e f)
 
-    pub rest_over : not (non_neg (number t a)) ≡ false → r ≡ n % d % span t → Part.Of r ≡ remainder_of t a b
+    pub rest_over : not (non_neg (number t a)) ≡ false → r ≡ n % d % span t → Some r ≡ remainder_of t a b
     unfolding remainder_of
     rest_over e w =
         some_part (nat_abs (number t b)) r (lowest (span t) (rem_z (number t a) (number t b))) (λ z. h (D ∙ z))
         (w ∙ (λ i. N i % D i % span t) ∙ rem_over (span t) (number t a) (number t b) e)
 
-    pub rest_under : not (non_neg (number t a)) ≡ true → r ≡ lowest (span t) (neg_ℤ (number t (n % d))) → Part.Of r ≡ remainder_of t a b
+    pub rest_under : not (non_neg (number t a)) ≡ true → r ≡ lowest (span t) (neg_ℤ (number t (n % d))) → Some r ≡ remainder_of t a b
     unfolding remainder_of
     rest_under e w =
         some_part (nat_abs (number t b)) r (lowest (span t) (rem_z (number t a) (number t b))) (λ z. h (D ∙ z))
@@ -172,14 +195,6 @@ less_alike a b s A B e f =
     let q = b % m in
     (λ i. ltb (sym (mod-eq_of_lt A) i) (sym (mod-eq_of_lt B) i))
     ∙ cond_order m p q (mod-lt a {m = m} (omega arith)) (mod-lt b {m = m} (omega arith)) (leb m (p + p)) (leb m (q + q)) s e f
-
-pub less_unlike : (x y : ℤ) (s : Bool) → not (non_neg x) ≡ s → not (non_neg y) ≡ not s → s ≡ lt_z x y
-less_unlike (pos n) (pos k) true e f = cc
-less_unlike (pos n) (pos k) false e f = cc
-less_unlike (pos n) (negsuc k) s e f = sym e
-less_unlike (negsuc n) (pos k) s e f = sym e
-less_unlike (negsuc n) (negsuc k) true e f = cc
-less_unlike (negsuc n) (negsuc k) false e f = cc
 
 -- ---- the sign drawn out to 64 bits
 

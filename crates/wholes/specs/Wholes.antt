@@ -1,7 +1,6 @@
 -- Whole numbers of the eight types. A constant holds the lowest bits of its number, as many as its type has.
-use Rattle.std.specs.Prelude.{ℕ, suc, ◌+◌, ◌-◌, ◌%◌, ◌^◌, Bool, true, false, cond, ◌&&◌, ℤ, pos, negsuc, ◌==◌, int_div, int_rem, nat_le, unsigned_abs}
+use Rattle.std.specs.Prelude.{ℕ, suc, ◌+◌, ◌-◌, ◌%◌, ◌^◌, Bool, true, false, cond, ◌&&◌, ℤ, pos, negsuc, ◌==◌, int_div, int_rem, nat_le, unsigned_abs, Option, Some, None}
 use Rattle.wholes.specs.declared.Integer.{Integer}
-use Rattle.wholes.specs.declared.Part.{Part}
 
 abbrev pub bits_of : Integer → ℕ
 bits_of Integer.I8 = 8
@@ -44,15 +43,15 @@ unfoldable pub wrap : Integer → ℤ → ℤ
 unfolding number lowest
 wrap t z = number t (lowest (span t) z)
 
-unfoldable pub or_none : Bool → ℕ → Part
-or_none true n = Part.None
-or_none false n = Part.Of n
+unfoldable pub or_none : Bool → ℕ → Option ℕ
+or_none true n = None
+or_none false n = Some n
 
 -- "signed division rounds toward zero, `%` takes the sign of the left operand": int_div and int_rem of std
-unfoldable pub quotient_of : Integer → ℕ → ℕ → Part
+unfoldable pub quotient_of : Integer → ℕ → ℕ → Option ℕ
 unfolding or_none lowest number
 quotient_of t a b = or_none (unsigned_abs (number t b) == 0) (lowest (span t) (int_div (number t a) (number t b)))
 
-unfoldable pub remainder_of : Integer → ℕ → ℕ → Part
+unfoldable pub remainder_of : Integer → ℕ → ℕ → Option ℕ
 unfolding or_none lowest number
 remainder_of t a b = or_none (unsigned_abs (number t b) == 0) (lowest (span t) (int_rem (number t a) (number t b)))

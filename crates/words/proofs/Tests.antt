@@ -34,18 +34,6 @@ pub chain6 : (a b c d e f : Bool) → (((((a || b) || c) || d) || e) || f) ≡ (
 chain6 true b c d e f = refl
 chain6 false b c d e f = chain5 b c d e f
 
-chain7 : (a b c d e f g : Bool) → ((((((a || b) || c) || d) || e) || f) || g) ≡ (a || (b || (c || (d || (e || (f || (g || false)))))))
-chain7 true b c d e f g = refl
-chain7 false b c d e f g = chain6 b c d e f g
-
-chain8 : (a b c d e f g h : Bool) → (((((((a || b) || c) || d) || e) || f) || g) || h) ≡ (a || (b || (c || (d || (e || (f || (g || (h || false))))))))
-chain8 true b c d e f g h = refl
-chain8 false b c d e f g h = chain7 b c d e f g h
-
-pub chain9 : (a b c d e f g h i : Bool) → ((((((((a || b) || c) || d) || e) || f) || g) || h) || i) ≡ (a || (b || (c || (d || (e || (f || (g || (h || (i || false)))))))))
-chain9 true b c d e f g h i = refl
-chain9 false b c d e f g h i = chain8 b c d e f g h i
-
 -- the same with a list behind the words
 pub tail2 : (a b : Bool) {c v : Bool} → c ≡ v → ((a || b) || c) ≡ (a || (b || v))
 tail2 true b q = refl
@@ -96,9 +84,6 @@ first b h g = rw h g
 
 pub second : {A : Type 0} {t : Bool} (a : A) {b x : A} → t ≡ false → x ≡ b → x ≡ cond t a b
 second a h g = rw h g
-
-pub ends_with_records : (x : ℕ) {b r : Bool} → b ≡ true → r ≡ one_of x expr_firsts → not r ≡ ends_return x b
-ends_with_records x e q = ap not q ∙ ap (ends_return x) (sym e)
 
 -- a word of a pair that is not the first of it
 pub filter_second : (x : ℕ) → T (one_of x filter_words) → (x ≡ 65 → ⊥) → 2 ≡ detail_for 45 x

@@ -14,49 +14,53 @@ use tokens::word;
 pub fn is_name(word: u64) -> bool
     ensures { result ≡ one_of word names }
 {
-    (word == word::NAME) | (word == word::UNDERSCORE)
+    matches!(word, word::NAME | word::UNDERSCORE)
 }
 
 pub fn is_path_item(word: u64) -> bool
     ensures { result ≡ one_of word path_items }
 {
-    (word == word::NAME)
-        | (word == word::UNDERSCORE)
-        | (word == word::PKG)
-        | (word == word::DEP)
-        | (word == word::SUPER)
-        | (word == word::STD)
+    matches!(
+        word,
+        word::NAME | word::UNDERSCORE | word::PKG | word::DEP | word::SUPER | word::STD
+    )
 }
 
 pub fn is_literal(word: u64) -> bool
     ensures { result ≡ one_of word literals }
 {
-    (word == word::INTEGER)
-        | (word == word::FLOAT)
-        | (word == word::HEX)
-        | (word == word::ASN)
-        | (word == word::IPV4)
-        | (word == word::IPV6)
-        | (word == word::STRING)
-        | (word == word::CHAR)
-        | (word == word::BOOL)
+    matches!(
+        word,
+        word::INTEGER
+            | word::FLOAT
+            | word::HEX
+            | word::ASN
+            | word::IPV4
+            | word::IPV6
+            | word::STRING
+            | word::CHAR
+            | word::BOOL
+    )
 }
 
 pub fn is_four(word: u64) -> bool
     ensures { result ≡ one_of word four_words }
 {
-    (word == word::IF) | (word == word::MATCH) | (word == word::WHILE) | (word == word::FOR)
+    matches!(word, word::IF | word::MATCH | word::WHILE | word::FOR)
 }
 
 pub fn is_assign(word: u64) -> bool
     ensures { result ≡ one_of word assign_signs }
 {
-    (word == word::EQ)
-        | (word == word::PLUS_EQ)
-        | (word == word::MINUS_EQ)
-        | (word == word::STAR_EQ)
-        | (word == word::SLASH_EQ)
-        | (word == word::PERCENT_EQ)
+    matches!(
+        word,
+        word::EQ
+            | word::PLUS_EQ
+            | word::MINUS_EQ
+            | word::STAR_EQ
+            | word::SLASH_EQ
+            | word::PERCENT_EQ
+    )
 }
 
 // An assignment's detail: 0 for `=`, then 1 to 5.
@@ -110,24 +114,27 @@ pub fn binary_detail(word: u64) -> u64
 pub fn is_compare(word: u64) -> bool
     ensures { result ≡ one_of word compare_signs }
 {
-    (word == word::EQ_EQ)
-        | (word == word::BANG_EQ)
-        | (word == word::ANGLE_LEFT)
-        | (word == word::ANGLE_LEFT_EQ)
-        | (word == word::ANGLE_RIGHT)
-        | (word == word::ANGLE_RIGHT_EQ)
+    matches!(
+        word,
+        word::EQ_EQ
+            | word::BANG_EQ
+            | word::ANGLE_LEFT
+            | word::ANGLE_LEFT_EQ
+            | word::ANGLE_RIGHT
+            | word::ANGLE_RIGHT_EQ
+    )
 }
 
 pub fn is_sum(word: u64) -> bool
     ensures { result ≡ one_of word sum_signs }
 {
-    (word == word::PLUS) | (word == word::HYPHEN)
+    matches!(word, word::PLUS | word::HYPHEN)
 }
 
 pub fn is_product(word: u64) -> bool
     ensures { result ≡ one_of word product_signs }
 {
-    (word == word::STAR) | (word == word::SLASH) | (word == word::PERCENT)
+    matches!(word, word::STAR | word::SLASH | word::PERCENT)
 }
 
 // How tight a binary sign binds: 1 `||`; 2 `&&`; 3 comparisons; 4 `+ -`; 5 `* / %`; 0 for a word that is none.
@@ -199,17 +206,13 @@ pub fn begins_declaration(word: u64, tests: bool) -> bool
 pub fn is_postfix(word: u64) -> bool
     ensures { result ≡ one_of word postfix_signs }
 {
-    (word == word::QUESTION_MARK) | (word == word::ROUND_LEFT) | (word == word::PERIOD)
+    matches!(word, word::QUESTION_MARK | word::ROUND_LEFT | word::PERIOD)
 }
 
 pub fn ends_return(word: u64, records: bool) -> bool
     ensures { result ≡ ends_return word records }
 {
-    if records {
-        !can_begin_expr(word)
-    } else {
-        false
-    }
+    records && !can_begin_expr(word)
 }
 
 pub fn closing_of(bracket: u64) -> u64
@@ -226,7 +229,7 @@ pub fn closing_of(bracket: u64) -> u64
 pub fn is_sign(word: u64) -> bool
     ensures { result ≡ one_of word sign_words }
 {
-    (word == word::BANG) | (word == word::HYPHEN)
+    matches!(word, word::BANG | word::HYPHEN)
 }
 
 pub fn sign_kind(word: u64) -> u64

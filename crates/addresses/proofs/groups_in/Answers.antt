@@ -1,5 +1,4 @@
 use Rattle.addresses.proofs.Sides.{gap_room, groups_short, groups_full}
-use borrow.Author.Rules.{rules}
 use Rattle.addresses.proofs.groups_in.Goals as goal
 
 pub shortened-requires : goal.shortened-requires

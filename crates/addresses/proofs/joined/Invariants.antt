@@ -1,13 +1,9 @@
-use mathlib.Core.Path.{◌≡◌, refl, ◌∙◌}
-use Prim.Native.Nat.{◌-◌, ◌≤◌}
-use native.Mathlib.Omega.{arith}
-use borrow.Author.Rules.{rules}
-use lib.ListN.{length}
-use Rattle.addresses.proofs.Parts.{still, turn_from, turn_to, turn_bad, turn_fits, turn_last, turn_next, turns_out}
+use Rattle.std.proofs.Common.{◌≡◌, ◌<◌, ◌≤◌, length, drop}
+use Rattle.addresses.specs.Groups.{separator_of, parts, values_of, heard}
 use Rattle.addresses.proofs.joined.Given as goal
 
-abbrev pub invariant-loop-n : goal.invariant-loop-n
-invariant-loop-n l = (still l.form l.t l.at l.n l.w ≡ still l.form l.t 0 l.count l.initial.w) × (l.at ≤ length l.t)
-
-abbrev pub decreases-loop-n : goal.decreases-loop-n
-decreases-loop-n l = 8 - l.n
+abbrev pub invariant-loop-part : goal.invariant-loop-part
+invariant-loop-part l = record {
+  number : heard l.form l.n l.w (values_of l.form (drop (length l.yielded) (parts (separator_of l.form) l.t))) ≡ heard l.form l.count l.fn.wide (values_of l.form (parts (separator_of l.form) l.t));
+  few : 0 < length l.yielded → l.n ≤ 8;
+}

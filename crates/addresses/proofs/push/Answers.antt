@@ -5,7 +5,6 @@ use Rattle.addresses.proofs.Parts.{push_dotted, push_hexed, push_fits}
 use Rattle.addresses.proofs.Parts.{push_dotted, push_hexed}
 use mathlib.Core.Path.{refl}
 use Rattle.addresses.specs.Groups.{push_of}
-use borrow.Author.Rules.{rules}
 use Rattle.addresses.proofs.push.Goals as goal
 
 pub overflow_add-result-in-Hexed : goal.overflow_add-result-in-Hexed

@@ -4,7 +4,6 @@ use lib.ListN.{drop, length-drop}
 use Rattle.numbers.proofs.Texts.{tail_part}
 use Rattle.addresses.specs.Addresses.{quad_of}
 use Rattle.addresses.proofs.Quads.{short_quad}
-use borrow.Author.Rules.{rules}
 use Rattle.addresses.proofs.quad_behind.Goals as goal
 
 pub returns-then-t-at-lt7 : goal.returns-then-t-at-lt7

@@ -1,5 +1,4 @@
 use Rattle.addresses.proofs.Sides.{side_empty, side_groups}
-use borrow.Author.Rules.{rules}
 use Rattle.addresses.proofs.side.Goals as goal
 
 pub returns-then-t-eq0 : goal.returns-then-t-eq0

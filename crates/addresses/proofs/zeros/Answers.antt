@@ -1,26 +1,19 @@
-use mathlib.Core.Path.{◌≡◌, refl, ap, ◌∙◌}
-use Prim.Native.Nat.{◌-◌}
-use native.Mathlib.Omega.{arith}
-use lib.ListN.{replicate}
+use Rattle.std.proofs.Common.{◌≡◌, ◌-◌, ◌+◌, ap, ◌∙◌, arith, replicate}
 use Rattle.addresses.specs.declared.Form.{Form}
 use Rattle.addresses.specs.Groups.{push_all}
 use Rattle.addresses.proofs.Sides.{zeros_more, zeros_done}
 use Rattle.addresses.proofs.zeros.Goals as goal
 
-pub loop-n-init : goal.loop-n-init
-loop-n-init c = refl
+pub loop-init : goal.loop-init
+loop-init c = let whole : c.args.count - 0 ≡ c.args.count = omega arith in ap (λ n. push_all Form.Hexed c.args.wide (replicate n 0)) whole
 
-pub push-w-requires : goal.push-w-requires
-push-w-requires c = omega arith
-
-pub overflow_sub-n : goal.overflow_sub-n
-overflow_sub-n c = omega arith
-
-pub loop-n-smaller : goal.loop-n-smaller
-loop-n-smaller c = omega arith
-
-pub loop-n-preserved : goal.loop-n-preserved
-loop-n-preserved c = ap (λ x. push_all Form.Hexed x (replicate (c.loop-n.n - 1) 0)) c.push-w.ensures ∙ zeros_more _ _ c.loop-n-test.true ∙ c.loop-n.invariant
+pub loop-preserved : goal.loop-preserved
+loop-preserved c =
+    let left : c.args.count - (c.loop.counter + 1) ≡ c.args.count - c.loop.counter - 1 = omega arith in
+    ap (λ n. push_all Form.Hexed c.push-w.result (replicate n 0)) left
+    ∙ ap (λ x. push_all Form.Hexed x (replicate (c.args.count - c.loop.counter - 1) 0)) c.push-w.ensures
+    ∙ zeros_more c.loop.w (c.args.count - c.loop.counter) (omega arith)
+    ∙ c.loop.invariant
 
 pub returns : goal.returns
-returns c = zeros_done _ _ c.loop-n-test.false ∙ c.loop-n.invariant
+returns c = zeros_done c.loop.w (c.args.count - c.loop.counter) (omega arith) ∙ c.loop.invariant

@@ -18,9 +18,6 @@ bounds-u-i c = omega arith
 pub returns-then-t-i : goal.returns-then-t-i
 returns-then-t-i c = same_stops _ _ _ c.loop-i-test.true (omega arith) c.if-t-i.true ∙ c.loop-i.invariant.0
 
-pub overflow_add-i : goal.overflow_add-i
-overflow_add-i c = omega arith
-
 pub loop-i-smaller : goal.loop-i-smaller
 loop-i-smaller c = omega arith
 

@@ -2,8 +2,8 @@ use Rattle.entry.proofs.Stored.{answered_done, answered_refused}
 use borrow.Author.Rules.{rules}
 use Rattle.entry.proofs.answer.Goals as goal
 
-pub returns-in-Done : goal.returns-in-Done
-returns-in-Done c = answered_done _ _ c.in-Done.is c.counted.ensures
+pub returns-in-Ok : goal.returns-in-Ok
+returns-in-Ok c = answered_done _ _ c.in-Ok.is c.counted.ensures
 
-pub returns-in-Refused : goal.returns-in-Refused
-returns-in-Refused c = answered_refused _ _ c.in-Refused.is c.refused.ensures
+pub returns-in-Err : goal.returns-in-Err
+returns-in-Err c = answered_refused _ _ c.in-Err.is c.refused.ensures

@@ -3,8 +3,8 @@ use Rattle.entry.proofs.Stored.{stored_done, stored_refused}
 use borrow.Author.Rules.{rules}
 use Rattle.entry.proofs.answer_put.Goals as goal
 
-pub returns-in-Done : goal.returns-in-Done
-returns-in-Done c = stored_done _ _ c.in-Done.is (refl, refl)
+pub returns-in-Ok : goal.returns-in-Ok
+returns-in-Ok c = stored_done _ _ c.in-Ok.is (refl, refl)
 
-pub returns-in-Refused : goal.returns-in-Refused
-returns-in-Refused c = stored_refused _ _ c.in-Refused.is c.refused.ensures
+pub returns-in-Err : goal.returns-in-Err
+returns-in-Err c = stored_refused _ _ c.in-Err.is c.refused.ensures

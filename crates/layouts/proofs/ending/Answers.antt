@@ -1,11 +1,9 @@
-use mathlib.Core.Path.{ap, ◌∙◌}
-use mathlib.Core.List.{List, ◌++◌}
-use Rattle.canon.specs.Text.{Bit}
-use Rattle.canon.specs.Events.{closing}
+use Rattle.layouts.proofs.Packs.{closed_so}
+use Rattle.layouts.proofs.Says.{behind_fits}
 use Rattle.layouts.proofs.ending.Goals as goal
 
-pub closed-requires : goal.closed-requires
-closed-requires c = c.last_words.ensures.1
+pub packed-requires : goal.packed-requires
+packed-requires c = let r = c.args.row in rw c.last_words.ensures (closed_so _ c.args.pair _ (behind_fits r.kind r.value r.detail c.args.phase c.args.more) c.parenthesis.ensures).1
 
 pub returns : goal.returns
-returns c = c.closed.ensures ∙ ap (λ (z : List Bit). z ++ closing c.args.pair) c.last_words.ensures.0
+returns c = let r = c.args.row in rw (c.packed.ensures, c.last_words.ensures) (closed_so _ c.args.pair _ (behind_fits r.kind r.value r.detail c.args.phase c.args.more) c.parenthesis.ensures).0

@@ -6,10 +6,10 @@ pub returns-in_default : goal.returns-in_default
 unfolding ended
 returns-in_default c = rw c.in_default.is c.refuse.ensures
 
-pub returns-then-r-ne11 : goal.returns-then-r-ne11
+pub returns-then-r-ne-ENDS_EARLY : goal.returns-then-r-ne-ENDS_EARLY
 unfolding ended
-returns-then-r-ne11 c = rw (c.in-Refused.is, ne_eqb _ _ c.if-r-ne11.true) c.refuse-then-r-ne11.ensures
+returns-then-r-ne-ENDS_EARLY c = rw (c.in-Err.is, ne_eqb _ _ c.if-r-ne-ENDS_EARLY.true) c.refuse-then-r-ne-ENDS_EARLY.ensures
 
 pub returns : goal.returns
 unfolding ended complete
-returns c = rw (c.in-Refused.is, eq-eqb _ _ c.if-r-ne11.false, c.new.ensures)
+returns c = rw (c.in-Err.is, eq-eqb _ _ c.if-r-ne-ENDS_EARLY.false)

@@ -1,10 +1,10 @@
 use Rattle.list.specs.States.{zero_next, next_of}
 use Rattle.list.proofs.next.Goals as goal
 
-pub returns-then-state : goal.returns-then-state
+pub returns-in-Some : goal.returns-in-Some
 unfolding next_of
-returns-then-state c = rw c.if-state.true c.read.ensures
+returns-in-Some c = rw c.in-Some.is c.read.ensures
 
 pub returns : goal.returns
 unfolding next_of zero_next
-returns c = rw (c.if-state.false, c.zero.ensures, c.new.ensures)
+returns c = rw (c.in_default.is, c.zero.ensures)

@@ -11,5 +11,5 @@ pub returns : goal.returns
 unfolding read_by
 returns c =
     let step = c.step-step.ensures.0 in
-    let token = c.in-Taken.is in
+    let token = c.in-Ok.is in
     rw (← step, token, c.code_of.ensures, c.later.ensures (taken_good _ _ (sym step ∙ token)).1, c.stand.ensures)

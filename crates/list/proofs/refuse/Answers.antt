@@ -3,4 +3,4 @@ use Rattle.list.proofs.refuse.Goals as goal
 
 pub returns : goal.returns
 unfolding failed
-returns c = rw (c.new.ensures, c.count_tokens.ensures)
+returns c = rw c.count_tokens.ensures

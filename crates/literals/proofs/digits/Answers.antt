@@ -7,9 +7,6 @@ use Prim.Native.Nat.{ℕ}
 use Rattle.numbers.specs.declared.Base.{Base}
 use Rattle.numbers.specs.Digits.{number_of, plain}
 use Rattle.chars.proofs.Texts.{part_slice}
-use borrow.Author.Rules.{rules}
-use Rattle.literals.proofs.digits.Statement.{statement}
-use Rattle.literals.proofs.digits.Tie as tie
 
 pub returns : goal.returns
 returns c = c.number_of.ensures ∙ ap (λ (l : List ℕ). number_of Base.Ten 9999999999999999999 (plain true l)) (part_slice c.args.start c.args.end c.args.t.now)

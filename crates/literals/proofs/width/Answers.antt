@@ -2,8 +2,6 @@ use Rattle.literals.proofs.width.Goals as goal
 -- `literals::width` meets its contract.
 use borrow.Author.Tests.{eq-eqb, ne_eqb}
 use Rattle.literals.specs.Answers.{width_of}
-use Rattle.literals.proofs.width.Statement.{statement}
-use Rattle.literals.proofs.width.Tie as tie
 
 pub returns-then-detail-eq-F32 : goal.returns-then-detail-eq-F32
 unfolding width_of

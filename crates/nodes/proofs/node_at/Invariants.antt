@@ -5,8 +5,8 @@ use Rattle.nodes.specs.Search.{Search}
 use Rattle.nodes.proofs.node_at.Given as goal
 
 -- what the search answers from here, it answers from the last row on
-abbrev pub invariant-loop-left : goal.invariant-loop-left
-invariant-loop-left l = (l.left ≤ room l.table) × ((a : Answer) → Search l.table l.position l.left a → Search l.table l.position (room l.table) a)
+abbrev pub invariant-loop-row : goal.invariant-loop-row
+invariant-loop-row l = (l.left ≤ room l.table) × ((a : Answer) → Search l.table l.position l.left a → Search l.table l.position (room l.table) a)
 
-abbrev pub decreases-loop-left : goal.decreases-loop-left
-decreases-loop-left l = l.left
+abbrev pub decreases-loop-row : goal.decreases-loop-row
+decreases-loop-row l = l.left

@@ -1,24 +1,30 @@
-use mathlib.Core.Path.{subst, sym}
-use Prim.Native.Nat.{◌<◌}
-use native.Mathlib.Omega.{arith}
-use Rattle.numbers.proofs.Digits.{fits, over, add_more, add_over, add_bad, radix_pos}
-use borrow.Author.Rules.{rules}
+use Rattle.std.proofs.Common.{Some, ap, ◌≡◌, ◌<◌, ◌+◌, ◌*◌, arith, ◌∙◌}
+use Rattle.numbers.proofs.Digits.{add_more, add_over, add_bad}
 use Rattle.numbers.proofs.add.Goals as goal
 
-pub overflow_mul-result : goal.overflow_mul-result
-overflow_mul-result c = record { fits = omega (arith, fits c.radix-r.result c.args.limit c.args.value c.args.d (subst (λ n. 0 < n) (sym c.radix-r.ensures) (radix_pos c.args.base)) c.if-d-limit.true c.if-value-limit.true, c.ranges.limit) }
+pub returns-then-radix-d : goal.returns-then-radix-d
+returns-then-radix-d c = add_bad _ _ _ _ c.radix-radix.ensures c.if-radix-d.true
 
-pub overflow_add-result : goal.overflow_add-result
-overflow_add-result c = record { fits = omega (arith, fits c.radix-r.result c.args.limit c.args.value c.args.d (subst (λ n. 0 < n) (sym c.radix-r.ensures) (radix_pos c.args.base)) c.if-d-limit.true c.if-value-limit.true, c.ranges.limit) }
+pub returns-in_err-checked_mul : goal.returns-in_err-checked_mul
+returns-in_err-checked_mul c =
+    let wide : c.args.value * c.radix-radix.result < 18446744073709551616 → ⊥ = c.in_err-checked_mul.ensures in
+    c.from_residual.ensures ∙ add_over _ _ _ _ c.radix-radix.ensures (omega (arith, c.ranges.limit))
 
-pub returns-then-value-limit : goal.returns-then-value-limit
-returns-then-value-limit c = add_more _ _ _ _ c.radix-r.ensures c.if-d-r.true (fits c.radix-r.result c.args.limit c.args.value c.args.d (subst (λ n. 0 < n) (sym c.radix-r.ensures) (radix_pos c.args.base)) c.if-d-limit.true c.if-value-limit.true)
+pub returns-in_err-sum : goal.returns-in_err-sum
+returns-in_err-sum c =
+    let wide : c.in_ok-checked_mul.field-0 + c.args.d < 18446744073709551616 → ⊥ = c.in_err-sum.ensures in
+    let product : c.in_ok-checked_mul.field-0 ≡ c.args.value * c.radix-radix.result = c.in_ok-checked_mul.ensures.1 in
+    c.from_residual-in_err-sum.ensures ∙ add_over _ _ _ _ c.radix-radix.ensures (omega (arith, c.ranges.limit))
 
-pub returns-else-value-limit : goal.returns-else-value-limit
-returns-else-value-limit c = add_over _ _ _ _ c.radix-r.ensures (over c.radix-r.result c.args.limit c.args.value c.args.d (subst (λ n. 0 < n) (sym c.radix-r.ensures) (radix_pos c.args.base)) c.if-d-limit.true c.if-value-limit.false)
+pub returns-then-sum-limit : goal.returns-then-sum-limit
+returns-then-sum-limit c =
+    let sum : c.in_ok-sum.sum ≡ c.in_ok-checked_mul.field-0 + c.args.d = c.in_ok-sum.ensures.1 in
+    let product : c.in_ok-checked_mul.field-0 ≡ c.args.value * c.radix-radix.result = c.in_ok-checked_mul.ensures.1 in
+    let whole : c.in_ok-sum.sum ≡ c.args.value * c.radix-radix.result + c.args.d = omega arith in
+    ap Some whole ∙ add_more _ _ _ _ c.radix-radix.ensures c.if-radix-d.false (omega arith)
 
-pub returns-else-d-limit : goal.returns-else-d-limit
-returns-else-d-limit c = add_over _ _ _ _ c.radix-r.ensures (omega (arith, c.if-d-limit.false))
-
-pub returns-else-d-r : goal.returns-else-d-r
-returns-else-d-r c = add_bad _ _ _ _ c.radix-r.ensures c.if-d-r.false
+pub returns-else-sum-limit : goal.returns-else-sum-limit
+returns-else-sum-limit c =
+    let sum : c.in_ok-sum.sum ≡ c.in_ok-checked_mul.field-0 + c.args.d = c.in_ok-sum.ensures.1 in
+    let product : c.in_ok-checked_mul.field-0 ≡ c.args.value * c.radix-radix.result = c.in_ok-checked_mul.ensures.1 in
+    add_over _ _ _ _ c.radix-radix.ensures (omega arith)

@@ -1,21 +1,15 @@
+use Rattle.std.proofs.Common.{◌∙◌}
 use lib.Dec.{lit<}
 use Rattle.numbers.specs.declared.Base.{Base}
 use Rattle.numbers.specs.Digits.{number_of}
 use Rattle.numbers.specs.Numbers.{as_of}
-use Rattle.numbers.proofs.Numbers.{begins_in, behind, not_begun}
-use borrow.Author.Rules.{rules}
+use Rattle.numbers.proofs.Numbers.{behind, not_begun}
 use Rattle.numbers.proofs.as_number.Goals as goal
 
-pub slice_bounds-number_of-count : goal.slice_bounds-number_of-count
-slice_bounds-number_of-count c = begins_in c.args.t.now 65 83 c.byte_at.ensures c.byte_at-2.ensures (lit< tt) c.if-byte_at.true
-
-pub slice_bounds-number_of-start : goal.slice_bounds-number_of-start
-slice_bounds-number_of-start c = begins_in c.args.t.now 65 83 c.byte_at.ensures c.byte_at-2.ensures (lit< tt) c.if-byte_at.true
-
-pub returns-then-byte_at : goal.returns-then-byte_at
+pub returns-in_err-strip_prefix : goal.returns-in_err-strip_prefix
 unfolding as_of
-returns-then-byte_at c = behind c.args.t.now 65 83 c.byte_at.ensures c.byte_at-2.ensures (number_of Base.Ten 4294967295) c.if-byte_at.true c.number_of.ensures
+returns-in_err-strip_prefix c = c.from_residual.ensures ∙ not_begun c.args.t.now 65 83 (lit< tt, lit< tt) _ c.in_err-strip_prefix.ensures.cases
 
 pub returns : goal.returns
 unfolding as_of
-returns c = not_begun c.args.t.now 65 83 c.byte_at.ensures c.byte_at-2.ensures _ c.if-byte_at.false
+returns c = c.number_of.ensures ∙ behind c.args.t.now 65 83 (lit< tt, lit< tt) (number_of Base.Ten 4294967295) c.in_ok-strip_prefix.ensures.cases.0 c.in_ok-strip_prefix.ensures.cases.1

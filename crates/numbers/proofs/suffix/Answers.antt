@@ -1,55 +1,17 @@
-use mathlib.Core.Path.{refl}
-use borrow.Author.Tests.{eq-eqb, ne_eqb}
-use Rattle.chars.specs.Texts.{bytes}
-use Rattle.numbers.specs.Numbers.{suffix_of, place_in}
-use Rattle.numbers.proofs.Choices.{so, first, second}
-use borrow.Author.Rules.{rules}
+use Rattle.std.proofs.Common.{rules, ◌≡◌, ℕ, List, map, length, refl, sym, ap, Bor}
+use Rattle.std.specs.Prelude.{position, unwrap_or}
+use Rattle.std.specs.Slice.Iter.{iter_rest}
+use Rattle.std.proofs.lemmas.Iterator.{YieldsList-from_slice}
+use Rattle.std.proofs.lemmas.Iterator.Search.{position_from_yields_List}
+use borrow.Author.Tests.{tests}
+use Rattle.chars.specs.Texts.{same, bytes}
+use Rattle.numbers.proofs.Numbers.{suffix_is}
 use Rattle.numbers.proofs.suffix.Goals as goal
 
-pub returns-then-t-eq0 : goal.returns-then-t-eq0
-unfolding suffix_of place_in bytes
-returns-then-t-eq0 c = first _ (eq-eqb _ _ c.if-t-eq0.true) refl
-
-pub returns-then-same : goal.returns-then-same
-unfolding suffix_of place_in bytes
-returns-then-same c = second _ (ne_eqb _ _ c.if-t-eq0.false) (first _ (so c.same.ensures c.if-same.true) refl)
-
-pub returns-then-same-2 : goal.returns-then-same-2
-unfolding suffix_of place_in bytes
-returns-then-same-2 c = second _ (ne_eqb _ _ c.if-t-eq0.false) (second _ (so c.same.ensures c.if-same.false) (first _ (so c.same-else-same.ensures c.if-same-2.true) refl))
-
-pub returns-then-same-3 : goal.returns-then-same-3
-unfolding suffix_of place_in bytes
-returns-then-same-3 c = second _ (ne_eqb _ _ c.if-t-eq0.false) (second _ (so c.same.ensures c.if-same.false) (second _ (so c.same-else-same.ensures c.if-same-2.false) (first _ (so c.same-else-same-2.ensures c.if-same-3.true) refl)))
-
-pub returns-then-same-4 : goal.returns-then-same-4
-unfolding suffix_of place_in bytes
-returns-then-same-4 c = second _ (ne_eqb _ _ c.if-t-eq0.false) (second _ (so c.same.ensures c.if-same.false) (second _ (so c.same-else-same.ensures c.if-same-2.false) (second _ (so c.same-else-same-2.ensures c.if-same-3.false) (first _ (so c.same-else-same-3.ensures c.if-same-4.true) refl))))
-
-pub returns-then-same-5 : goal.returns-then-same-5
-unfolding suffix_of place_in bytes
-returns-then-same-5 c = second _ (ne_eqb _ _ c.if-t-eq0.false) (second _ (so c.same.ensures c.if-same.false) (second _ (so c.same-else-same.ensures c.if-same-2.false) (second _ (so c.same-else-same-2.ensures c.if-same-3.false) (second _ (so c.same-else-same-3.ensures c.if-same-4.false) (first _ (so c.same-else-same-4.ensures c.if-same-5.true) refl)))))
-
-pub returns-then-same-6 : goal.returns-then-same-6
-unfolding suffix_of place_in bytes
-returns-then-same-6 c = second _ (ne_eqb _ _ c.if-t-eq0.false) (second _ (so c.same.ensures c.if-same.false) (second _ (so c.same-else-same.ensures c.if-same-2.false) (second _ (so c.same-else-same-2.ensures c.if-same-3.false) (second _ (so c.same-else-same-3.ensures c.if-same-4.false) (second _ (so c.same-else-same-4.ensures c.if-same-5.false) (first _ (so c.same-else-same-5.ensures c.if-same-6.true) refl))))))
-
-pub returns-then-same-7 : goal.returns-then-same-7
-unfolding suffix_of place_in bytes
-returns-then-same-7 c = second _ (ne_eqb _ _ c.if-t-eq0.false) (second _ (so c.same.ensures c.if-same.false) (second _ (so c.same-else-same.ensures c.if-same-2.false) (second _ (so c.same-else-same-2.ensures c.if-same-3.false) (second _ (so c.same-else-same-3.ensures c.if-same-4.false) (second _ (so c.same-else-same-4.ensures c.if-same-5.false) (second _ (so c.same-else-same-5.ensures c.if-same-6.false) (first _ (so c.same-else-same-6.ensures c.if-same-7.true) refl)))))))
-
-pub returns-then-same-8 : goal.returns-then-same-8
-unfolding suffix_of place_in bytes
-returns-then-same-8 c = second _ (ne_eqb _ _ c.if-t-eq0.false) (second _ (so c.same.ensures c.if-same.false) (second _ (so c.same-else-same.ensures c.if-same-2.false) (second _ (so c.same-else-same-2.ensures c.if-same-3.false) (second _ (so c.same-else-same-3.ensures c.if-same-4.false) (second _ (so c.same-else-same-4.ensures c.if-same-5.false) (second _ (so c.same-else-same-5.ensures c.if-same-6.false) (second _ (so c.same-else-same-6.ensures c.if-same-7.false) (first _ (so c.same-else-same-7.ensures c.if-same-8.true) refl))))))))
-
-pub returns-then-same-9 : goal.returns-then-same-9
-unfolding suffix_of place_in bytes
-returns-then-same-9 c = second _ (ne_eqb _ _ c.if-t-eq0.false) (second _ (so c.same.ensures c.if-same.false) (second _ (so c.same-else-same.ensures c.if-same-2.false) (second _ (so c.same-else-same-2.ensures c.if-same-3.false) (second _ (so c.same-else-same-3.ensures c.if-same-4.false) (second _ (so c.same-else-same-4.ensures c.if-same-5.false) (second _ (so c.same-else-same-5.ensures c.if-same-6.false) (second _ (so c.same-else-same-6.ensures c.if-same-7.false) (second _ (so c.same-else-same-7.ensures c.if-same-8.false) (first _ (so c.same-else-same-8.ensures c.if-same-9.true) refl)))))))))
-
-pub returns-then-same-10 : goal.returns-then-same-10
-unfolding suffix_of place_in bytes
-returns-then-same-10 c = second _ (ne_eqb _ _ c.if-t-eq0.false) (second _ (so c.same.ensures c.if-same.false) (second _ (so c.same-else-same.ensures c.if-same-2.false) (second _ (so c.same-else-same-2.ensures c.if-same-3.false) (second _ (so c.same-else-same-3.ensures c.if-same-4.false) (second _ (so c.same-else-same-4.ensures c.if-same-5.false) (second _ (so c.same-else-same-5.ensures c.if-same-6.false) (second _ (so c.same-else-same-6.ensures c.if-same-7.false) (second _ (so c.same-else-same-7.ensures c.if-same-8.false) (second _ (so c.same-else-same-8.ensures c.if-same-9.false) (first _ (so c.same-else-same-9.ensures c.if-same-10.true) refl))))))))))
-
-pub returns-else-same-10 : goal.returns-else-same-10
-unfolding suffix_of place_in bytes
-returns-else-same-10 c = second _ (ne_eqb _ _ c.if-t-eq0.false) (second _ (so c.same.ensures c.if-same.false) (second _ (so c.same-else-same.ensures c.if-same-2.false) (second _ (so c.same-else-same-2.ensures c.if-same-3.false) (second _ (so c.same-else-same-3.ensures c.if-same-4.false) (second _ (so c.same-else-same-4.ensures c.if-same-5.false) (second _ (so c.same-else-same-5.ensures c.if-same-6.false) (second _ (so c.same-else-same-6.ensures c.if-same-7.false) (second _ (so c.same-else-same-7.ensures c.if-same-8.false) (second _ (so c.same-else-same-8.ensures c.if-same-9.false) (second _ (so c.same-else-same-9.ensures c.if-same-10.false) (refl)))))))))))
+pub returns : goal.returns
+unfolding bytes
+returns c =
+    let found : c.position-number.result ≡ position (λ (u : Bor (List ℕ)). same c.args.t.now u.now) (iter_rest c.iter.result) =
+    position_from_yields_List (λ (u : Bor (List ℕ)). same c.args.t.now u.now) _ _ c.position-number.result c.position-number.ensures.ran (YieldsList-from_slice (iter_rest c.iter.result) refl) (λ x b q k. search (rules, tests)) in
+    let number : c.unwrap_or.result ≡ unwrap_or c.position-number.result 11 = c.unwrap_or.ensures in
+    suffix_is c.args.t.now (iter_rest c.iter.result) (ap (map (λ (u : Bor (List ℕ)). u.now)) c.iter.ensures.rest) found (sym (ap length c.iter.ensures.rest)) number

@@ -10,4 +10,4 @@ pub returns-in_default : goal.returns-in_default
 returns-in_default c = closing_is c.args.s.now c.args.here c.args.word c.args.start c.args.children (sym c.word.ensures ∙ c.if-word.false) (took_refused _ c.in_default.is c.unusable-in_default.ensures)
 
 pub returns : goal.returns
-returns c = closing_is c.args.s.now c.args.here c.args.word c.args.start c.args.children (sym c.word.ensures ∙ c.if-word.false) (took_taken _ c.in-Taken.is (list_taken c.args.s.now c.args.here c.args.start c.args.children c.in-Taken.is c.look.ensures))
+returns c = closing_is c.args.s.now c.args.here c.args.word c.args.start c.args.children (sym c.word.ensures ∙ c.if-word.false) (took_taken _ c.in-Ok.is (list_taken c.args.s.now c.args.here c.args.start c.args.children c.in-Ok.is c.look.ensures))

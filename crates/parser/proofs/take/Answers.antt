@@ -6,4 +6,4 @@ pub returns-in_default : goal.returns-in_default
 returns-in_default c = took_refused _ c.in_default.is c.unusable.ensures
 
 pub returns : goal.returns
-returns c = took_taken _ c.in-Taken.is (past_taken c.args.s.now c.args.here c.in-Taken.is c.look.ensures)
+returns c = took_taken _ c.in-Ok.is (past_taken c.args.s.now c.args.here c.in-Ok.is c.look.ensures)

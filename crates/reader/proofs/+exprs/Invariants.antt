@@ -14,7 +14,6 @@ use Rattle.parser.specs.Places.{next_of, word_of, start_of, token_node}
 use Rattle.parser.specs.declared.Here.{Here}
 use Rattle.parser.specs.declared.Limits.{Limits}
 use Rattle.parser.specs.declared.Node.{Node}
-use Rattle.parser.specs.declared.Read.TheVariants.{Done}
 use Rattle.promises.proofs.Alternatives.{expr_off, operand_four_on, operand_literal_on, operand_parens_on, operand_string_on, four_for_on, four_if_on, four_match_on, four_off, four_while_on, after_expr_on, after_four_semicolon_on, statement_import_on, statement_let_on}
 use Rattle.promises.proofs.Answered.{kept_either, further, not_both, none_fits, read_as, rows_small}
 use Rattle.promises.proofs.Arms.{arm_arrow, arm_arrow_fails, arm_ends, arm_fails, arm_guard_fails, arm_guarded, arm_pattern_fails, body_block, body_expr, body_fails, guard_ends, guard_fails, guard_none, Gone, arm_further, armed, arms_end, arms_fail, arms_last, gone_few, gone_on, gone_start}
@@ -48,11 +47,11 @@ invariant-access-loop-at l = Accesses l.s l.limits l.at.rows l.initial.left l.in
 abbrev pub decreases-access-loop-at : goal.decreases-access-loop-at
 decreases-access-loop-at l = 70000 - next_of l.here
 
-abbrev pub invariant-args-loop-inner : goal.invariant-args-loop-inner
-invariant-args-loop-inner l = Loops exprs_list l.s l.inner l.initial.here l.initial.table l.initial.children l.here l.table l.children
+abbrev pub invariant-arguments-loop-inner : goal.invariant-arguments-loop-inner
+invariant-arguments-loop-inner l = Loops exprs_list l.s l.inner l.initial.here l.initial.table l.initial.children l.here l.table l.children
 
-abbrev pub decreases-args-loop-inner : goal.decreases-args-loop-inner
-decreases-args-loop-inner l = 70000 - next_of l.here
+abbrev pub decreases-arguments-loop-inner : goal.decreases-arguments-loop-inner
+decreases-arguments-loop-inner l = 70000 - next_of l.here
 
 abbrev pub invariant-binop_expr-loop-tight : goal.invariant-binop_expr-loop-tight
 invariant-binop_expr-loop-tight l = Chained l.s l.records l.after l.up l.at.rows l.initial.left l.initial.here l.initial.table l.tight l.left l.here l.table
@@ -81,8 +80,8 @@ decreases-match_expr-loop-inner l = length l.s + 1 - next_of l.here
 abbrev pub decreases-access : goal.decreases-access
 decreases-access l = (70000 - next_of l.at) * 64 + 15
 
-abbrev pub decreases-args : goal.decreases-args
-decreases-args l = (70000 - next_of l.at) * 64 + 8
+abbrev pub decreases-arguments : goal.decreases-arguments
+decreases-arguments l = (70000 - next_of l.at) * 64 + 8
 
 abbrev pub decreases-arm : goal.decreases-arm
 decreases-arm l = (70000 - next_of l.here) * 64 + 39

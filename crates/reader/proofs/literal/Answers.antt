@@ -9,7 +9,7 @@ pub returns-in_default : goal.returns-in_default
 returns-in_default c = λ d. never_refused c.args.s.now c.args.here literals tt c.requires.1 (took_refused _ c.in_default.is c.unusable.ensures) c.unusable.ensures
 
 pub returns-in_default-literal_at : goal.returns-in_default-literal_at
-returns-in_default-literal_at c = λ d. token_none _ d _ _ c.requires.0 c.requires.1 c.in-Taken.is c.code_of.ensures c.literal_at.ensures.0 c.in_default-literal_at.is c.refuse.ensures
+returns-in_default-literal_at c = λ d. token_none _ d _ _ c.requires.0 c.requires.1 c.in-Ok.is c.code_of.ensures c.literal_at.ensures.0 c.in_default-literal_at.is c.refuse.ensures
 
 pub returns : goal.returns
-returns c = λ d. token_read _ d _ _ c.requires.0 c.requires.1 c.in-Taken.is c.code_of.ensures c.literal_at.ensures.0 c.in-Is.is c.look.ensures c.finish.ensures
+returns c = λ d. token_read _ d _ _ c.requires.0 c.requires.1 c.in-Ok.is c.code_of.ensures c.literal_at.ensures.0 c.in-Some.is c.look.ensures c.finish.ensures

@@ -1,4 +1,4 @@
-use mathlib.Core.Path.{◌≡◌, sym, subst}
+use mathlib.Core.Path.{sym, subst}
 use Prim.Native.Nat.{◌+◌, ◌<◌}
 use lib.Dec.{T}
 use lib.Ieee.{Float, binary64, fits, add}

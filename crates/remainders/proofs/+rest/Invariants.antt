@@ -1,4 +1,4 @@
-use Prim.Native.Nat.{ℕ, ◌-◌, ◌^◌}
+use Prim.Native.Nat.{◌-◌, ◌^◌}
 use lib.Ieee.{binary64}
 use Rattle.remainders.proofs.Left.{units}
 use Rattle.remainders.proofs.+rest.Given as goal

@@ -1,4 +1,4 @@
-use mathlib.Core.Path.{◌≡◌, sym, ◌∙◌}
+use mathlib.Core.Path.{sym, ◌∙◌}
 use Rattle.remainders.proofs.Signs.{endless, by_nan, by_endless, abs_amount, abs_divisor, by_zero, negative, plain}
 use Rattle.remainders.proofs.remainder.Goals as goal
 

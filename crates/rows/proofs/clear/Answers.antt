@@ -1,28 +1,9 @@
-use mathlib.Core.Path.{◌≡◌, refl, sym, ◌∙◌}
-use Prim.Native.Nat.{◌-◌}
-use native.Mathlib.Omega.{arith}
-use lib.ListN.{length, length-set}
-use Rattle.rows.specs.Rows.{zeroed}
-use Rattle.rows.proofs.Zeros.{more_zeros, no_zeros}
+use Rattle.std.proofs.Common.{sym, rules, arith}
+use Rattle.rows.proofs.Zeros.{filled, no_zeros}
 use Rattle.rows.proofs.clear.Goals as goal
 
-pub loop-i-init : goal.loop-i-init
-loop-i-init c = (refl, refl)
+pub returns-then-from-table : goal.returns-then-from-table
+returns-then-from-table c = filled c.args.table.now c.args.from c.if-from-table.true (c.fill.ensures.after (search rules))
 
-pub offset_bounds-table-i : goal.offset_bounds-table-i
-offset_bounds-table-i c = omega arith
-
-pub bounds-table-i : goal.bounds-table-i
-bounds-table-i c = omega arith
-
-pub overflow_add-i : goal.overflow_add-i
-overflow_add-i c = omega (arith, c.well_formed)
-
-pub loop-i-smaller : goal.loop-i-smaller
-loop-i-smaller c = omega arith
-
-pub loop-i-preserved : goal.loop-i-preserved
-loop-i-preserved c = (more_zeros _ _ (omega arith) ∙ c.loop-i.invariant.0, simp length-set c.loop-i.invariant.1)
-
-pub returns : goal.returns
-returns c = sym (no_zeros _ _ (omega arith)) ∙ c.loop-i.invariant.0
+pub returns-else-from-table : goal.returns-else-from-table
+returns-else-from-table c = sym (no_zeros _ _ (omega arith))

@@ -1,5 +1,4 @@
 use Rattle.rows.proofs.Compares.{lowered_less, lowered_before}
-use borrow.Author.Rules.{rules}
 use Rattle.rows.proofs.note.Goals as goal
 
 pub returns-then-n-table : goal.returns-then-n-table

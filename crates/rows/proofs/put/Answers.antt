@@ -3,7 +3,6 @@ use mathlib.Core.Bool.{not}
 use native.Mathlib.Omega.{arith}
 use lib.ListN.{length-set}
 use Rattle.rows.proofs.Compares.{noted_differs, noted_same, put_compares, put_writes, put_full}
-use borrow.Author.Rules.{rules}
 use Rattle.rows.proofs.put.Goals as goal
 
 pub returns-then-not-same : goal.returns-then-not-same

@@ -1,6 +1,5 @@
 use mathlib.Core.Path.{refl}
 use Rattle.rows.proofs.Compares.{same_in, same_out}
-use borrow.Author.Rules.{rules}
 use Rattle.rows.proofs.same_at.Goals as goal
 
 pub returns-then-n-table : goal.returns-then-n-table

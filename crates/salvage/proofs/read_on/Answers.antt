@@ -21,16 +21,16 @@ pub returns-in_default : goal.returns-in_default
 returns-in_default c = reaches_broken c.loop-table.invariant (true_so (c.begins_declaration.ensures ∙ ap (λ (w : ℕ). one_of w (firsts_by false)) c.word.ensures) c.loop-table-test.true) c.declare-r.ensures c.in_default.is c.broken_by.ensures
 
 pub overflow_add-rows : goal.overflow_add-rows
-overflow_add-rows c = omega (arith, sum_few c.loop-table.invariant (true_so (c.begins_declaration.ensures ∙ ap (λ (w : ℕ). one_of w (firsts_by false)) c.word.ensures) c.loop-table-test.true) c.declare-r.ensures c.in-Done.is)
+overflow_add-rows c = omega (arith, sum_few c.loop-table.invariant (true_so (c.begins_declaration.ensures ∙ ap (λ (w : ℕ). one_of w (firsts_by false)) c.word.ensures) c.loop-table-test.true) c.declare-r.ensures c.in-Ok.is)
 
 pub overflow_add-children : goal.overflow_add-children
 overflow_add-children c = omega (arith, counts_few c.loop-table.invariant)
 
 pub loop-table-smaller : goal.loop-table-smaller
-loop-table-smaller c = let e = ap (λ (y : Here). next_of y) c.afresh-here.ensures in let l = later_on c.loop-table.invariant (true_so (c.begins_declaration.ensures ∙ ap (λ (w : ℕ). one_of w (firsts_by false)) c.word.ensures) c.loop-table-test.true) c.declare-r.ensures c.in-Done.is in omega (arith, e, l, counts_few c.loop-table.invariant)
+loop-table-smaller c = let e = ap (λ (y : Here). next_of y) c.afresh-here.ensures in let l = later_on c.loop-table.invariant (true_so (c.begins_declaration.ensures ∙ ap (λ (w : ℕ). one_of w (firsts_by false)) c.word.ensures) c.loop-table-test.true) c.declare-r.ensures c.in-Ok.is in omega (arith, e, l, counts_few c.loop-table.invariant)
 
 pub loop-table-preserved : goal.loop-table-preserved
-loop-table-preserved c = goes_again c.loop-table.invariant (true_so (c.begins_declaration.ensures ∙ ap (λ (w : ℕ). one_of w (firsts_by false)) c.word.ensures) c.loop-table-test.true) c.declare-r.ensures c.in-Done.is c.afresh-here.ensures
+loop-table-preserved c = goes_again c.loop-table.invariant (true_so (c.begins_declaration.ensures ∙ ap (λ (w : ℕ). one_of w (firsts_by false)) c.word.ensures) c.loop-table-test.true) c.declare-r.ensures c.in-Ok.is c.afresh-here.ensures
 
 pub returns-then-word-ne-NONE : goal.returns-then-word-ne-NONE
 returns-then-word-ne-NONE c = reaches_other c.loop-table.invariant (false_so (c.begins_declaration.ensures ∙ ap (λ (w : ℕ). one_of w (firsts_by false)) c.word.ensures) c.loop-table-test.false) (λ e. c.if-word-ne-NONE.true (c.word-2.ensures ∙ e)) c.unusable.ensures c.broken_by-then-word-ne-NONE.ensures

@@ -2,10 +2,10 @@ use Rattle.parser.specs.Places.{step_start}
 use borrow.Author.Rules.{rules}
 use Rattle.salvage.proofs.start_of.Goals as goal
 
-pub returns-in-Taken : goal.returns-in-Taken
+pub returns-in-Ok : goal.returns-in-Ok
 unfolding step_start
-returns-in-Taken c = search rules
+returns-in-Ok c = search rules
 
-pub returns-in-Refused : goal.returns-in-Refused
+pub returns-in-Err : goal.returns-in-Err
 unfolding step_start
-returns-in-Refused c = search rules
+returns-in-Err c = search rules

@@ -4,6 +4,3 @@ use Rattle.setter.proofs.place_children.Given as goal
 
 abbrev pub invariant-loop-left : goal.invariant-loop-left
 invariant-loop-left l = Placing l.rows l.initial.plan l.top l.row l.children (meant l.place) l.plan l.phase l.left
-
-abbrev pub decreases-loop-left : goal.decreases-loop-left
-decreases-loop-left l = l.left

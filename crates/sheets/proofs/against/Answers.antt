@@ -1,9 +1,7 @@
-use mathlib.Core.Path.{refl, sym}
+use mathlib.Core.Path.{refl}
 use native.Mathlib.Omega.{arith}
 use lib.ListN.{length-set}
-use lib.Seq.{length-take-le}
-use Rattle.sheets.proofs.Sources.{against_in, against_out, against_length}
-use borrow.Author.Rules.{rules}
+use Rattle.sheets.proofs.Sources.{against_in, against_out}
 use Rattle.sheets.proofs.against.Goals as goal
 
 pub slice_bounds-put_rows-end : goal.slice_bounds-put_rows-end

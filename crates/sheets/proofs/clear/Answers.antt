@@ -1,25 +1,11 @@
-use mathlib.Core.Path.{◌≡◌, refl, sym, ◌∙◌}
-use Prim.Native.Nat.{◌-◌}
 use native.Mathlib.Omega.{arith}
-use lib.ListN.{length, length-set}
-use Rattle.rows.specs.Rows.{zeroed}
-use Rattle.rows.proofs.Zeros.{more_zeros, no_zeros}
+use Prim.Native.Nat.{◌-◌}
+use mathlib.Core.Path.{ap, ◌∙◌}
+use Prim.Native.Nat.{ℕ}
+use lib.ListN.{length, replicate}
+use borrow.Author.Rules.{rules}
+use Rattle.sheets.proofs.Stores.{zeros_put}
 use Rattle.sheets.proofs.clear.Goals as goal
 
-pub loop-i-init : goal.loop-i-init
-loop-i-init c = (refl, refl)
-
-pub bounds-file-i : goal.bounds-file-i
-bounds-file-i c = omega arith
-
-pub overflow_add-i : goal.overflow_add-i
-overflow_add-i c = omega arith
-
-pub loop-i-smaller : goal.loop-i-smaller
-loop-i-smaller c = omega arith
-
-pub loop-i-preserved : goal.loop-i-preserved
-loop-i-preserved c = (more_zeros _ _ (omega arith) ∙ c.loop-i.invariant.0, simp length-set c.loop-i.invariant.1)
-
 pub returns : goal.returns
-returns c = sym (no_zeros _ _ (omega arith)) ∙ c.loop-i.invariant.0
+returns c = zeros_put c.args.file.now c.args.from (length c.args.file.now - c.args.from) (c.fill.ensures.after (search rules) ∙ ap (λ (n : ℕ). replicate n 0) (search rules)) (omega arith)

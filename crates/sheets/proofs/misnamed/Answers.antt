@@ -1,69 +1,34 @@
-use mathlib.Core.Path.{sym, ◌∙◌}
-use mathlib.Core.List.{List, []}
-use Prim.Native.Nat.{ℕ}
+use mathlib.Core.Path.{sym, subst, ◌∙◌}
+use mathlib.Core.List.{◌∷◌, []}
+use Prim.Native.Nat.{ℕ, ◌/◌}
 use native.Mathlib.Omega.{arith}
-use borrow.Author.Rules.{rules}
-use borrow.Author.Tests.{not-true, not-false}
-use Rattle.sheets.specs.Places.{numbers_at}
-use Rattle.sheets.specs.Steps.{Tabled}
+use lib.ListN.{length}
+use Rattle.std.specs.Prelude.{Some}
+use Rattle.sheets.specs.Steps.{indexes_in}
 use Rattle.sheets.proofs.Widths.{numbers_length}
-use Rattle.sheets.proofs.Named.{Walk}
-use Rattle.sheets.proofs.Firsts.{begun, gone, Firsts, firsts_start, firsts_same, firsts_differ, firsts_all}
+use Rattle.sheets.proofs.Firsts.{begun_at, one_back, number_back, walks, Firsts, firsts_start, firsts_same, firsts_differ, firsts_all}
 use Rattle.sheets.proofs.misnamed.Goals as goal
 
-pub overflow_sub-row : goal.overflow_sub-row
-overflow_sub-row c = let b = begun c.args.table.now c.args.rows c.requires.1 in omega (arith, b.some, b.inside)
+pub loop-i-init : goal.loop-i-init
+loop-i-init c =
+    let b = c.of-declarations.ensures.1 c.requires in
+    let r = begun_at c.requires c.of-declarations.ensures.0 b in
+    let f : Firsts (indexes_in c.args.indexes.now) [] c.of-declarations.result.left c.surplus-first.result = firsts_start (indexes_in c.args.indexes.now) _ (numbers_length 4 c.args.indexes.now 0 (length c.args.indexes.now / 4)) c.surplus-first.ensures in
+    rw c.into_iter-i-iterator.ensures.into_iter_gives (walks c.requires c.of-declarations.ensures.0 b, tt, c.requires, [], r, f)
 
-pub overflow_mul-left : goal.overflow_mul-left
-overflow_mul-left c = let b = begun c.args.table.now c.args.rows c.requires.1 in omega (arith, b.some, b.inside)
+pub loop-i-preserved-then-not-names : goal.loop-i-preserved-then-not-names
+loop-i-preserved-then-not-names c =
+    let s = c.in-Some.ensures.steps in
+    let b = number_back _ _ _ _ _ _ s.1 in
+    let l = c.loop-i.invariant in
+    (c.in-Some.ensures.goes.keeps, tt, l.2, _ ∷ l.3, one_back l.4 s, subst (λ (n : ℕ). Firsts (indexes_in c.args.indexes.now) (c.in-Some.row ∷ l.3) n (Some c.in-Some.i)) b.1 (firsts_differ c.args.indexes.now _ _ _ _ _ b.0 l.5 (sym c.names.ensures ∙ c.if-not-names.true)))
 
-pub overflow_add-left : goal.overflow_add-left
-overflow_add-left c = let b = begun c.args.table.now c.args.rows c.requires.1 in omega (arith, b.some, b.inside)
-
-pub offset_bounds-table-row : goal.offset_bounds-table-row
-offset_bounds-table-row c = let b = begun c.args.table.now c.args.rows c.requires.1 in omega (arith, b.some, b.inside)
-
-pub bounds-table-row : goal.bounds-table-row
-bounds-table-row c = let b = begun c.args.table.now c.args.rows c.requires.1 in omega (arith, b.some, b.inside)
-
-pub loop-left-init : goal.loop-left-init
-loop-left-init c = (c.requires.1, [], (begun c.args.table.now c.args.rows c.requires.1).walk, firsts_start (numbers_at 4 c.args.file.now c.args.at c.args.indexes) _ _ (numbers_length 4 c.args.file.now c.args.at c.args.indexes) c.surplus-first.ensures)
-
-pub overflow_sub-child : goal.overflow_sub-child
-overflow_sub-child c = let g = gone c.args.table.now c.args.rows c.loop-left.invariant.0 _ _ c.loop-left.invariant.1 c.loop-left.invariant.2 (omega arith) in omega (arith, g.some, g.inside, g.size)
-
-pub overflow_sub-left : goal.overflow_sub-left
-overflow_sub-left c = let g = gone c.args.table.now c.args.rows c.loop-left.invariant.0 _ _ c.loop-left.invariant.1 c.loop-left.invariant.2 (omega arith) in omega (arith, g.some, g.inside, g.size)
-
-pub overflow_mul-row : goal.overflow_mul-row
-overflow_mul-row c = let g = gone c.args.table.now c.args.rows c.loop-left.invariant.0 _ _ c.loop-left.invariant.1 c.loop-left.invariant.2 (omega arith) in omega (arith, g.some, g.inside, g.size)
-
-pub overflow_add-row : goal.overflow_add-row
-overflow_add-row c = let g = gone c.args.table.now c.args.rows c.loop-left.invariant.0 _ _ c.loop-left.invariant.1 c.loop-left.invariant.2 (omega arith) in omega (arith, g.some, g.inside, g.size)
-
-pub offset_bounds-table-child : goal.offset_bounds-table-child
-offset_bounds-table-child c = let g = gone c.args.table.now c.args.rows c.loop-left.invariant.0 _ _ c.loop-left.invariant.1 c.loop-left.invariant.2 (omega arith) in omega (arith, g.some, g.inside, g.size)
-
-pub bounds-table-child : goal.bounds-table-child
-bounds-table-child c = let g = gone c.args.table.now c.args.rows c.loop-left.invariant.0 _ _ c.loop-left.invariant.1 c.loop-left.invariant.2 (omega arith) in omega (arith, g.some, g.inside, g.size)
-
-pub overflow_sub-row-in-loop-left : goal.overflow_sub-row-in-loop-left
-overflow_sub-row-in-loop-left c = let g = gone c.args.table.now c.args.rows c.loop-left.invariant.0 _ _ c.loop-left.invariant.1 c.loop-left.invariant.2 (omega arith) in omega (arith, g.some, g.inside, g.size)
-
-pub names-requires : goal.names-requires
-names-requires c = c.requires.0
-
-pub loop-left-smaller-then-not-names : goal.loop-left-smaller-then-not-names
-loop-left-smaller-then-not-names c = omega arith
-
-pub loop-left-preserved-then-not-names : goal.loop-left-preserved-then-not-names
-loop-left-preserved-then-not-names c = (c.loop-left.invariant.0, _, (gone c.args.table.now c.args.rows c.loop-left.invariant.0 _ _ c.loop-left.invariant.1 c.loop-left.invariant.2 (omega arith)).next, firsts_differ c.args.file.now c.args.at c.args.indexes _ _ _ c.loop-left.invariant.1 (omega arith) c.loop-left.invariant.3 (sym c.names.ensures ∙ c.if-not-names.true))
-
-pub loop-left-smaller : goal.loop-left-smaller
-loop-left-smaller c = omega arith
-
-pub loop-left-preserved : goal.loop-left-preserved
-loop-left-preserved c = (c.loop-left.invariant.0, _, (gone c.args.table.now c.args.rows c.loop-left.invariant.0 _ _ c.loop-left.invariant.1 c.loop-left.invariant.2 (omega arith)).next, firsts_same c.args.file.now c.args.at c.args.indexes _ _ _ c.loop-left.invariant.1 (omega arith) c.loop-left.invariant.3 (sym c.names.ensures ∙ c.if-not-names.false))
+pub loop-i-preserved : goal.loop-i-preserved
+loop-i-preserved c =
+    let s = c.in-Some.ensures.steps in
+    let b = number_back _ _ _ _ _ _ s.1 in
+    let l = c.loop-i.invariant in
+    (c.in-Some.ensures.goes.keeps, tt, l.2, _ ∷ l.3, one_back l.4 s, subst (λ (n : ℕ). Firsts (indexes_in c.args.indexes.now) (c.in-Some.row ∷ l.3) n c.loop-i.first) b.1 (firsts_same c.args.indexes.now _ _ _ _ _ b.0 l.5 (sym c.names.ensures ∙ c.if-not-names.false)))
 
 pub returns : goal.returns
-returns c = λ d. firsts_all (numbers_at 4 c.args.file.now c.args.at c.args.indexes) _ _ _ c.loop-left.invariant.0 d (omega arith) c.loop-left.invariant.2 (let l = numbers_length 4 c.args.file.now c.args.at c.args.indexes in omega (arith, l, c.requires.0)) c.loop-left.invariant.3
+returns c = λ d. let l = c.loop-i.invariant in let e = c.in-None.ensures.steps.1 in firsts_all (indexes_in c.args.indexes.now) l.3 c.loop-i.i-iterator.left l.2 d (omega (arith, e)) l.4.walk l.5

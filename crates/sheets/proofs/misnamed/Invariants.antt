@@ -1,18 +1,15 @@
-use mathlib.Core.Path.{sym, ◌∙◌}
-use mathlib.Core.List.{List, []}
+use mathlib.Core.List.{List}
 use Prim.Native.Nat.{ℕ}
-use native.Mathlib.Omega.{arith}
-use borrow.Author.Rules.{rules}
-use borrow.Author.Tests.{not-true, not-false}
-use Rattle.sheets.specs.Places.{numbers_at}
-use Rattle.sheets.specs.Steps.{Tabled}
-use Rattle.sheets.proofs.Widths.{numbers_length}
-use Rattle.sheets.proofs.Named.{Walk}
-use Rattle.sheets.proofs.Firsts.{begun, gone, Firsts, firsts_start, firsts_same, firsts_differ, firsts_all}
+use Rattle.sheets.specs.Steps.{indexes_in}
+use Rattle.sheets.specs.Walks.{Tabled}
+use Rattle.sheets.proofs.Firsts.{Reached, Firsts}
 use Rattle.sheets.proofs.misnamed.Given as goal
 
-abbrev pub invariant-loop-left : goal.invariant-loop-left
-invariant-loop-left l = (d : Tabled l.table l.rows) × (rest : List ℕ) × Walk d.rows d.ids l.left l.row rest × Firsts (numbers_at 4 l.file l.at l.indexes) rest l.left l.first
-
-abbrev pub decreases-loop-left : goal.decreases-loop-left
-decreases-loop-left l = l.left
+abbrev pub invariant-loop-i : goal.invariant-loop-i
+invariant-loop-i l =
+    (goal.iterator-loop-i).can_next l.i-iterator
+    × (goal.iterator-loop-i).is_finite l.i-iterator
+    × (d : Tabled l.table l.rows)
+    × (rest : List ℕ)
+    × Reached d l.i-iterator.table.now l.i-iterator.row l.i-iterator.left rest
+    × Firsts (indexes_in l.indexes) rest l.i-iterator.left l.first

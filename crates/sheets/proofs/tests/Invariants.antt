@@ -1,10 +1,6 @@
-use Prim.Native.Nat.{◌+◌, ◌≤◌}
-use native.Mathlib.Omega.{arith}
-use Rattle.sheets.proofs.Firsts.{Counts, none_counted, one_test, no_test, all_counted}
+use Prim.Native.Nat.{◌≤◌}
+use Rattle.sheets.proofs.Firsts.{Counts}
 use Rattle.sheets.proofs.tests.Given as goal
 
-abbrev pub invariant-loop-left : goal.invariant-loop-left
-invariant-loop-left l = (l.left ≤ l.rows) × (l.count + l.left ≤ l.rows) × Counts l.table l.rows l.left l.count
-
-abbrev pub decreases-loop-left : goal.decreases-loop-left
-decreases-loop-left l = l.left
+abbrev pub invariant-loop-row : goal.invariant-loop-row
+invariant-loop-row l = (l.count ≤ l.row) × Counts l.table l.rows l.row l.count

@@ -1,6 +1,5 @@
 use native.Mathlib.Omega.{arith}
 use Rattle.strings.proofs.Escapes.{ascii_is, ascii_not, below_two}
-use borrow.Author.Rules.{rules}
 use Rattle.strings.proofs.ascii.Goals as goal
 
 pub overflow_mul-result : goal.overflow_mul-result

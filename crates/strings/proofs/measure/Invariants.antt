@@ -1,10 +1,8 @@
-use mathlib.Core.Path.{◌≡◌, ◌∙◌}
+use mathlib.Core.Path.{◌≡◌}
 use Prim.Native.Nat.{◌-◌, ◌≤◌}
-use native.Mathlib.Omega.{arith}
-use borrow.Author.Rules.{rules}
 use lib.ListN.{length, drop}
 use Rattle.strings.specs.Strings.{measure_of}
-use Rattle.strings.proofs.Strings.{plus, plus_zero, measured_none, measured_more, measured_end, turn_width, turn_inside, turn_some}
+use Rattle.strings.proofs.Strings.{plus}
 use Rattle.strings.proofs.measure.Given as goal
 
 abbrev pub invariant-loop-i : goal.invariant-loop-i

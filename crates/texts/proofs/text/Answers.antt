@@ -1,3 +1,4 @@
+use Rattle.std.proofs.Common.{◌∙◌}
 use borrow.Author.Rules.{rules}
 use Prim.Native.Nat.{◌-◌}
 use native.Mathlib.Omega.{arith}
@@ -14,20 +15,20 @@ slice_bounds-piece_of-count c = omega arith
 pub slice_bounds-piece_of-start : goal.slice_bounds-piece_of-start
 slice_bounds-piece_of-start c = omega arith
 
-pub returns-in_default : goal.returns-in_default
-returns-in_default c = counts_none c.loop-i.invariant c.loop-i-test.true c.piece_of.ensures c.in_default.is
+pub returns-in_err-code : goal.returns-in_err-code
+returns-in_err-code c = c.from_residual.ensures ∙ counts_none c.loop-i.invariant c.loop-i-test.true c.piece_of.ensures c.in_err-code.was
 
 pub with_code-h-requires : goal.with_code-h-requires
-with_code-h-requires c = let a = counts_wide c.loop-i.invariant c.loop-i-test.true c.piece_of.ensures c.in-Is.is in let b = counts_in c.loop-i.invariant c.loop-i-test.true c.piece_of.ensures c.in-Is.is in omega (arith, a, b.0)
+with_code-h-requires c = let a = counts_wide c.loop-i.invariant c.loop-i-test.true c.piece_of.ensures c.in_ok-code.was in let b = counts_in c.loop-i.invariant c.loop-i-test.true c.piece_of.ensures c.in_ok-code.was in omega (arith, a, b.0)
 
 pub overflow_add-i : goal.overflow_add-i
-overflow_add-i c = let b = counts_in c.loop-i.invariant c.loop-i-test.true c.piece_of.ensures c.in-Is.is in omega (arith, b.0)
+overflow_add-i c = let b = counts_in c.loop-i.invariant c.loop-i-test.true c.piece_of.ensures c.in_ok-code.was in omega (arith, b.0)
 
 pub loop-i-smaller : goal.loop-i-smaller
-loop-i-smaller c = let b = counts_in c.loop-i.invariant c.loop-i-test.true c.piece_of.ensures c.in-Is.is in omega (arith, b.0, b.1)
+loop-i-smaller c = let b = counts_in c.loop-i.invariant c.loop-i-test.true c.piece_of.ensures c.in_ok-code.was in omega (arith, b.0, b.1)
 
 pub loop-i-preserved : goal.loop-i-preserved
-loop-i-preserved c = counts_more c.loop-i.invariant c.loop-i-test.true c.piece_of.ensures c.in-Is.is c.with_code-h.ensures
+loop-i-preserved c = counts_more c.loop-i.invariant c.loop-i-test.true c.piece_of.ensures c.in_ok-code.was c.with_code-h.ensures
 
 pub returns : goal.returns
 returns c = counts_end c.loop-i.invariant c.loop-i-test.false

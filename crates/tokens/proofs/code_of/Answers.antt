@@ -1,17 +1,18 @@
+use Rattle.std.proofs.Common.{arith}
 use Rattle.tokens.proofs.Rules.{code_keyword, code_one, code_two, code_under, code_same}
 use Rattle.tokens.proofs.code_of.Goals as goal
 
-pub returns-then-word-ge60 : goal.returns-then-word-ge60
-returns-then-word-ge60 c = code_keyword _ c.if-word-ge60.true
+pub returns-in-60-to-18446744073709551615 : goal.returns-in-60-to-18446744073709551615
+returns-in-60-to-18446744073709551615 c = code_keyword _ (omega arith)
 
-pub returns-then-word-ge40 : goal.returns-then-word-ge40
-returns-then-word-ge40 c = code_one _ c.if-word-ge60.false c.if-word-ge40.true
+pub returns-in-40-to-18446744073709551615 : goal.returns-in-40-to-18446744073709551615
+returns-in-40-to-18446744073709551615 c = code_one _ (omega arith) (omega arith)
 
-pub returns-then-word-ge20 : goal.returns-then-word-ge20
-returns-then-word-ge20 c = code_two _ c.if-word-ge40.false c.if-word-ge20.true
+pub returns-in-20-to-18446744073709551615 : goal.returns-in-20-to-18446744073709551615
+returns-in-20-to-18446744073709551615 c = code_two _ (omega arith) (omega arith)
 
-pub returns-then-word-eq14 : goal.returns-then-word-eq14
-returns-then-word-eq14 c = code_under _ c.if-word-eq14.true
+pub returns-in-14 : goal.returns-in-14
+returns-in-14 c = code_under _ c.in-14.is
 
-pub returns : goal.returns
-returns c = code_same _ c.if-word-ge20.false c.if-word-eq14.false
+pub returns-in_default : goal.returns-in_default
+returns-in_default c = code_same _ (omega arith) λ e. absurd (omega (arith, e))

@@ -1,3 +1,4 @@
+use Rattle.std.specs.Prelude.{Ok}
 use mathlib.Core.Path.{◌≡◌}
 use Prim.Native.Nat.{◌-◌}
 use mathlib.Core.Path.{◌≡◌}
@@ -5,11 +6,10 @@ use Prim.Native.Nat.{◌-◌}
 use lib.ListN.{length}
 use Rattle.tokens.proofs.Lists.{Counted}
 use Rattle.tokens.specs.Tokens.{whole_of}
-use Rattle.tokens.specs.declared.Whole.TheVariants.{Fine}
 use Rattle.tokens.proofs.count_tokens.Given as goal
 
 abbrev pub invariant-loop-next : goal.invariant-loop-next
-invariant-loop-next l = Counted l.s l.cursor.at l.count × (whole_of l.s ≡ Fine)
+invariant-loop-next l = Counted l.s l.cursor.at l.count × (whole_of l.s ≡ (Ok tt))
 
 abbrev pub decreases-loop-next : goal.decreases-loop-next
 decreases-loop-next l = length l.s - l.cursor.at

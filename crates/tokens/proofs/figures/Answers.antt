@@ -1,11 +1,12 @@
-use Rattle.tokens.proofs.Fits.{so, found, also, miss}
+use mathlib.Core.Path.{refl, ◌∙◌}
+use Rattle.std.proofs.Common.{rules}
+use Rattle.tokens.specs.Rules.{hex_at, number_at, or_else}
+use Rattle.tokens.proofs.Fits.{either}
 use Rattle.tokens.proofs.figures.Goals as goal
 
-pub returns-in-To : goal.returns-in-To
-returns-in-To c = λ later. found _ c.ipv4-fit.ensures c.in-To.is later _
-
-pub returns-in-To-fit : goal.returns-in-To-fit
-returns-in-To-fit c = λ later. miss _ (so c.ipv4-fit.ensures c.in_default.is) (found _ c.hex_number-fit.ensures c.in-To-fit.is later _)
-
 pub returns : goal.returns
-returns c = λ later. miss _ (so c.ipv4-fit.ensures c.in_default.is) (miss _ (so c.hex_number-fit.ensures c.in_default-fit.is) (also _ c.number.ensures later))
+returns c = λ later.
+    let s = c.args.s.now in
+    let at = c.args.at in
+    either (number_at s at) at refl c.or_else-2.ensures (λ h. search (rules, h)) later
+    ∙ either (hex_at s at) at c.ipv4.ensures c.or_else.ensures (λ h. search (rules, h)) (or_else at (number_at s at) later)

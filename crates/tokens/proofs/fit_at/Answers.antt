@@ -7,9 +7,9 @@ use Rattle.tokens.proofs.Fits.{so, found}
 use Rattle.tokens.proofs.Firsts.{told, quote_low, quote_read, by_letter, by_digit, by_quote, by_sign}
 use Rattle.tokens.proofs.fit_at.Goals as goal
 
-pub returns-in-To : goal.returns-in-To
+pub returns-in-Some : goal.returns-in-Some
 unfolding token_at
-returns-in-To c = found _ c.address-fit.ensures c.in-To.is _ _
+returns-in-Some c = found _ c.address-fit.ensures c.in-Some.is _ _
 
 pub returns-then-is_name_start : goal.returns-then-is_name_start
 returns-then-is_name_start c = by_letter _ _ (so c.address-fit.ensures c.in_default.is) (told is_name_start c.byte_at-b.ensures c.is_name_start.ensures c.if-is_name_start.true) c.letters.ensures

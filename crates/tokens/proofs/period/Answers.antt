@@ -16,13 +16,13 @@ use Rattle.tokens.proofs.Rules.{period_fits, period_fails, period_none}
 use Rattle.tokens.proofs.period.Goals as goal
 
 pub overflow_add-result : goal.overflow_add-result
-overflow_add-result c = omega (arith, inside c.args.s.now c.past-end.result c.byte_at-then-is_digit.ensures c.if-byte_at-eq46.true (omega arith))
+overflow_add-result c = omega (arith, inside c.args.s.now c.past-end.result c.byte_at-then-is_digit.ensures c.if-byte_at-eq-PERIOD.true (omega arith))
 
-pub returns-then-byte_at-eq46 : goal.returns-then-byte_at-eq46
-returns-then-byte_at-eq46 c = period_fits _ _ c.past-end.ensures c.byte_at-then-is_digit.ensures (so (c.is_digit.ensures ∙ ap is_digit c.byte_at.ensures) c.if-is_digit.true) c.if-byte_at-eq46.true
+pub returns-then-byte_at-eq-PERIOD : goal.returns-then-byte_at-eq-PERIOD
+returns-then-byte_at-eq-PERIOD c = period_fits _ _ c.past-end.ensures c.byte_at-then-is_digit.ensures (so (c.is_digit.ensures ∙ ap is_digit c.byte_at.ensures) c.if-is_digit.true) c.if-byte_at-eq-PERIOD.true
 
-pub returns-else-byte_at-eq46 : goal.returns-else-byte_at-eq46
-returns-else-byte_at-eq46 c = period_fails _ _ c.past-end.ensures c.byte_at-then-is_digit.ensures c.if-byte_at-eq46.false
+pub returns-else-byte_at-eq-PERIOD : goal.returns-else-byte_at-eq-PERIOD
+returns-else-byte_at-eq-PERIOD c = period_fails _ _ c.past-end.ensures c.byte_at-then-is_digit.ensures c.if-byte_at-eq-PERIOD.false
 
 pub returns-else-is_digit : goal.returns-else-is_digit
 returns-else-is_digit c = period_none _ _ (so (c.is_digit.ensures ∙ ap is_digit c.byte_at.ensures) c.if-is_digit.false)

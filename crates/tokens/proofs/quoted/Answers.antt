@@ -10,9 +10,6 @@ overflow_add-at c = omega (arith, inside c.args.s.now c.args.at c.byte_at.ensure
 pub returns-then-close-s-2 : goal.returns-then-close-s-2
 returns-then-close-s-2 c = quote_fits _ _ _ _ (c.closing-close.ensures ∙ c.text_blocks.ensures) c.byte_at.ensures c.if-byte_at-quote.true c.if-close-s-2.true
 
-pub returns-else-close-s-2 : goal.returns-else-close-s-2
-returns-else-close-s-2 c = quote_open _ _ _ _ (c.closing-close.ensures ∙ c.text_blocks.ensures) c.if-close-s-2.false
-
 pub returns-else-close-s : goal.returns-else-close-s
 returns-else-close-s c = quote_open _ _ _ _ (c.closing-close.ensures ∙ c.text_blocks.ensures) (omega arith)
 

@@ -1,8 +1,7 @@
-use Rattle.tokens.proofs.Fits.{so, found, also, miss}
+use Rattle.std.proofs.Common.{rules}
+use Rattle.tokens.specs.Rules.{one_at}
+use Rattle.tokens.proofs.Fits.{either}
 use Rattle.tokens.proofs.signs.Goals as goal
 
-pub returns-in-To : goal.returns-in-To
-returns-in-To c = λ later. found _ c.two_char_punctuation-fit.ensures c.in-To.is later _
-
 pub returns : goal.returns
-returns c = λ later. miss _ (so c.two_char_punctuation-fit.ensures c.in_default.is) (also _ c.one_char_punctuation.ensures later)
+returns c = either (one_at c.args.s.now c.args.at) c.args.at c.two_char_punctuation.ensures c.or_else.ensures λ h. search (rules, h)

@@ -1,18 +1,13 @@
-use mathlib.Core.Path.{refl, ◌∙◌}
-use native.Mathlib.Omega.{arith}
+use Rattle.std.proofs.Common.{arith, rules, false}
+use Rattle.chars.proofs.Runs.{span_over}
+use Rattle.tokens.specs.Rules.{goes_on, escapes}
+use Rattle.tokens.proofs.Quotes.{quote_outside, plain_byte}
 use Rattle.tokens.proofs.text_blocks.Goals as goal
 
-pub returns-then-s-at : goal.returns-then-s-at
-returns-then-s-at c = refl
-
-pub loop-i-init : goal.loop-i-init
-loop-i-init c = (omega arith, refl)
-
-pub has_stop-requires : goal.has_stop-requires
-has_stop-requires c = omega arith
-
-pub loop-i-smaller : goal.loop-i-smaller
-loop-i-smaller c = omega arith
-
-pub loop-i-preserved : goal.loop-i-preserved
-loop-i-preserved c = (omega arith, c.has_stop.ensures c.if-has_stop.false ∙ c.loop-i.invariant.1)
+pub returns : goal.returns
+returns c =
+    let q = c.args.quote in
+    let s = c.args.s.now in
+    let e = c.past_blocks.ensures in
+    span_over (goes_on q) escapes false (quote_outside q false) s c.args.at c.past_blocks.result e.from e.inside λ i l m.
+    plain_byte q s (omega (arith, c.type_inv.s i)) (let h = e.passed i 0 l m in search (rules, h))

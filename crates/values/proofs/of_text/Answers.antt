@@ -1,8 +1,8 @@
 use mathlib.Core.Path.{refl, ap, ◌∙◌}
 use borrow.Author.Tests.{ne_eqb}
 use Rattle.numbers.proofs.Choices.{second}
-use Rattle.values.specs.Literals.{literal_of, from_address, from_quad, from_number, from_amount, from_size, from_point}
-use Rattle.values.proofs.Literals.{at_code}
+use Rattle.values.specs.Literals.{literal_of, from_value, from_address, from_number, from_amount, from_size}
+use Rattle.values.proofs.Literals.{at_code, as_quad, as_point}
 use borrow.Author.Rules.{rules}
 use Rattle.values.proofs.of_text.Goals as goal
 
@@ -12,7 +12,7 @@ returns-in-1 c = at_code c.args.t.now c.in-1.is (c.from_address.ensures ∙ ap (
 
 pub returns-in-2 : goal.returns-in-2
 unfolding literal_of
-returns-in-2 c = at_code c.args.t.now c.in-2.is (c.from_quad.ensures ∙ ap (from_quad) c.ipv4.ensures)
+returns-in-2 c = at_code c.args.t.now c.in-2.is (c.from_value.ensures ∙ ap (from_value 14) c.ipv4.ensures ∙ as_quad _)
 
 pub returns-in-5 : goal.returns-in-5
 unfolding literal_of
@@ -36,7 +36,7 @@ returns-in-9 c = at_code c.args.t.now c.in-9.is (c.from_size.ensures ∙ ap (fro
 
 pub returns-in-10 : goal.returns-in-10
 unfolding literal_of
-returns-in-10 c = at_code c.args.t.now c.in-10.is (c.from_point.ensures ∙ ap (from_point) c.char_of.ensures)
+returns-in-10 c = at_code c.args.t.now c.in-10.is (c.from_value-in-10.ensures ∙ ap (from_value 17) c.char_of.ensures ∙ as_point _)
 
 pub returns-in-12 : goal.returns-in-12
 unfolding literal_of

@@ -2,8 +2,8 @@ use Rattle.parser.proofs.Laws.{word_taken, word_refused}
 use borrow.Author.Rules.{rules}
 use Rattle.parser.proofs.Here.word.Goals as goal
 
-pub returns-in-Taken : goal.returns-in-Taken
-returns-in-Taken c = word_taken c.in-Taken.is
+pub returns-in-Ok : goal.returns-in-Ok
+returns-in-Ok c = word_taken c.in-Ok.is
 
-pub returns-in-Refused : goal.returns-in-Refused
-returns-in-Refused c = word_refused c.in-Refused.is c.word_of_refused.ensures
+pub returns-in-Err : goal.returns-in-Err
+returns-in-Err c = word_refused c.in-Err.is c.word_of_refused.ensures

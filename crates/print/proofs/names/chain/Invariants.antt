@@ -1,5 +1,5 @@
-use Rattle.std.proofs.Common.{◌+◌, ◌-◌, ◌≡◌, ℕ, ◌*◌, ◌<◌, ◌≤◌, length}
+use Rattle.std.proofs.Common.{◌+◌, ◌-◌}
 use Rattle.print.proofs.names.chain.Given as goal
 
-abbrev pub decreases-loop-i : goal.decreases-loop-i
-decreases-loop-i l = l.i + 1 - l.leaf
+abbrev pub decreases-loop-row : goal.decreases-loop-row
+decreases-loop-row l = l.row + 1 - l.leaf

@@ -12,4 +12,4 @@ pub returns-then-not-is_name : goal.returns-then-not-is_name
 returns-then-not-is_name c = (λ d. item_refused name_any _ d _ _ c.requires (false_so (c.is_name.ensures ∙ ap (λ w. one_of w names) c.word.ensures) c.if-not-is_name.true) c.unusable.ensures, λ d. item_refused field_name_any _ d _ _ c.requires (false_so (c.is_name.ensures ∙ ap (λ w. one_of w names) c.word.ensures) c.if-not-is_name.true) c.unusable.ensures)
 
 pub returns : goal.returns
-returns c = let k = true_so (c.is_name.ensures ∙ ap (λ w. one_of w names) c.word.ensures) c.if-not-is_name.false in let i = c.item.ensures names tt k in (λ d. item_read name_any _ d _ _ c.requires tt k i.0 i.1, λ d. item_read field_name_any _ d _ _ c.requires tt k i.0 i.1)
+returns c = let k = true_so (c.is_name.ensures ∙ ap (λ w. one_of w names) c.word.ensures) c.if-not-is_name.false in let i = c.leaf.ensures names tt k in (λ d. item_read name_any _ d _ _ c.requires tt k i.0 i.1, λ d. item_read field_name_any _ d _ _ c.requires tt k i.0 i.1)

@@ -15,8 +15,8 @@ use mathlib.Core.Path.{sym, ◌∙◌}
 use Rattle.parser.proofs.Steps.{never_refused, took_done}
 use Rattle.reader.proofs.names.path.Given as goal
 
-abbrev pub invariant-loop-r : goal.invariant-loop-r
-invariant-loop-r l = Goes l.s l.first.start l.initial.end l.initial.children l.initial.here l.initial.table l.end l.children l.here l.table
+abbrev pub invariant-loop-here : goal.invariant-loop-here
+invariant-loop-here l = Goes l.s l.first.start l.initial.end l.initial.children l.initial.here l.initial.table l.end l.children l.here l.table
 
-abbrev pub decreases-loop-r : goal.decreases-loop-r
-decreases-loop-r l = length l.s + 1 - next_of l.here
+abbrev pub decreases-loop-here : goal.decreases-loop-here
+decreases-loop-here l = length l.s + 1 - next_of l.here

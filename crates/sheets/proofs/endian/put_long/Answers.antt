@@ -1,6 +1,7 @@
-use Rattle.sheets.proofs.Stores.{eight_stored}
-use borrow.Author.Rules.{rules}
+use mathlib.Core.Path.{ap, ◌∙◌}
+use lib.Seq.{sets}
+use Rattle.sheets.proofs.Stores.{long_bytes}
 use Rattle.sheets.proofs.endian.put_long.Goals as goal
 
 pub returns : goal.returns
-returns c = eight_stored _ _ _ _ _ c.put_short.ensures c.put_short-2.ensures
+returns c = c.put.ensures ∙ ap (sets c.args.b.now c.args.at) (c.to_le_bytes.ensures ∙ long_bytes c.args.x)

@@ -1,7 +1,0 @@
-use mathlib.Core.Path.{refl}
-use Rattle.nodes.specs.Nodes.{node_at}
-use Rattle.nodes.proofs.row_at.Goals as goal
-
-pub returns : goal.returns
-unfolding node_at
-returns c = refl

@@ -1,6 +1,0 @@
-use mathlib.Core.Path.{ap}
-use borrow.Author.Rules.{rules}
-use Rattle.parser.proofs.Limits.opened.Goals as goal
-
-pub returns : goal.returns
-returns c = ap (λ n. record { brackets = n; signs = 32; chain = c.args.self.chain; heads = c.args.self.heads }) c.one_less.ensures
