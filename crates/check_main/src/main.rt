@@ -52,7 +52,7 @@ struct Report<'a> {
 
 impl Report<'_> {
     // A file without a refusal: a line of JSON, and nothing as text.
-    fn plain(&mut self, status: &str, outcome: Outcome) -> Result<Outcome, Error> {
+    fn plain(&mut self, status: &[u8], outcome: Outcome) -> Result<Outcome, Error> {
         if self.json {
             let mut out = io::large_buffer();
             let mut page = Page::new(&mut out);
@@ -83,20 +83,20 @@ impl Report<'_> {
         let mut none = [0u64; 1];
         let a = entries::tree(s, &mut none);
         if a.number == refusal::NO_ROOM {
-            return self.plain("accepted", Outcome::Accepted);
+            return self.plain(b"accepted", Outcome::Accepted);
         }
         self.refused(s, a)
     }
 
     fn unread(&mut self, rt: &HostRuntime, why: &Error) -> Result<Outcome, Error> {
         programs::fail(rt.alloc(), self.name, why);
-        self.plain("unreadable", Outcome::Unread)
+        self.plain(b"unreadable", Outcome::Unread)
     }
 
     fn other(&mut self) -> Result<Outcome, Error> {
         io::write_all(STDERR_FILENO, self.name);
         io::write_all(STDERR_FILENO, b": no regular file and no pipe\n");
-        self.plain("unreadable", Outcome::Unread)
+        self.plain(b"unreadable", Outcome::Unread)
     }
 
     // A file that is open.
@@ -188,5 +188,5 @@ fn main(rt: HostRuntime) {
             "{files} files: {accepted} accepted, {refused} refused, {unread} unreadable\n"
         ));
     }
-    programs::status(&rt, ending(tally, to.written()));
+    programs::status(&rt, ending(tally, to.written()).into());
 }

@@ -104,11 +104,11 @@ pub fn report_from(
 }
 
 // `{"file":NAME,"status":STATUS`.
-pub fn json_head(page: &mut Page, name: &[u8], status: &str) {
+pub fn json_head(page: &mut Page, name: &[u8], status: &[u8]) {
     page.put_all(b"{\"file\":\"");
     in_json::put_name(page, name);
     page.put_all(b"\",\"status\":\"");
-    page.put_all(status.as_bytes());
+    page.put_all(status);
     page.put(b'"');
 }
 
@@ -137,7 +137,7 @@ fn json_reported(
 ) -> fmt::Result {
     let mut tries = behind(room, s, 0, a);
     let expected = expected(a, &mut tries);
-    json_head(page, name, "refused");
+    json_head(page, name, b"refused");
     json_place(page, s, a)?;
     page.put_all(b",\"message\":\"");
     causes::message(&mut Json { page }, s, a, &mut tries, &expected)?;

@@ -18,6 +18,12 @@ pub enum Ending {
     Failed,
 }
 
+impl From<Ending> for u8 {
+    fn from(ending: Ending) -> u8 {
+        b'0' + ending as u8
+    }
+}
+
 const STDERR_FILENO: i32 = 2;
 
 // Where the command that calls a program reads what it is to end with.
@@ -52,9 +58,9 @@ pub fn arguments(rt: &impl Env) -> usize {
 }
 
 // Tells the command that called this program what to end with. A program without arguments has no such caller.
-pub fn status(rt: &impl Env, what: Ending) {
+pub fn status(rt: &impl Env, what: u8) {
     if 1 < arguments(rt) {
-        io::write_all(STATUS_FILENO, &[b'0' + what as u8]);
+        io::write_all(STATUS_FILENO, &[what]);
     }
 }
 
@@ -99,7 +105,7 @@ pub fn read<'b>(input: &mut impl Read, buffer: &'b mut [u8]) -> Result<&'b mut [
 // Says that something couldn't be had, and what to end with.
 fn give_up(rt: &(impl Env + AllocGlobal), what: &[u8], why: &Error) {
     fail(rt.alloc(), what, why);
-    status(rt, Ending::Failed);
+    status(rt, Ending::Failed.into());
 }
 
 // The system's numbers for why an argument can't be had: there is none, and it is too long.
@@ -187,8 +193,8 @@ impl Out {
 pub fn end(rt: &(impl Env + AllocGlobal), accepted: bool, written: Result<(), Error>) {
     match written {
         Err(why) => give_up(rt, b"standard output", &why),
-        Ok(()) if accepted => status(rt, Ending::Accepted),
-        Ok(()) => status(rt, Ending::Refused),
+        Ok(()) if accepted => status(rt, Ending::Accepted.into()),
+        Ok(()) => status(rt, Ending::Refused.into()),
     }
 }
 
