@@ -10,8 +10,8 @@ use Rattle.canon.specs.Layout as canon
 use Rattle.canon.specs.Text.{Bit, sign, signs}
 use Rattle.canon.specs.Events.{closing}
 use Rattle.sink.specs.Told.{digit, said}
-use Rattle.places.specs.Meant.{unless_of}
-use Rattle.layouts.specs.Packed.{packed, past_three, unless_in, place_in}
+use Rattle.places.specs.Meant.{unless_in, unless_of}
+use Rattle.layouts.specs.Packed.{packed, past_three, place_in}
 
 -- The digits of a number.
 

@@ -1,9 +1,7 @@
 -- Words in one number (as sink/specs/Told.antt's `said` reads them), and a place with the words before it in one number. Not to be believed: only contracts inside the printer cite it.
-use Rattle.std.specs.Prelude.{List, [], ◌∷◌, cond, ℕ, ◌+◌, ◌*◌, ◌/◌, ◌%◌, eqb}
+use Rattle.std.specs.Prelude.{List, [], ◌∷◌, ℕ, ◌+◌, ◌*◌, ◌/◌, ◌%◌, eqb}
 use Rattle.canon.specs.Layout as canon
-use Rattle.places.specs.declared.Unless.{Unless}
-use Rattle.places.specs.declared.Unless.TheVariants.{Nothing, Four, Brace}
-use Rattle.places.specs.Meant.{unless_of}
+use Rattle.places.specs.Meant.{unless_in, unless_of}
 
 -- words, and behind them what another number says
 unfoldable pub packed : List ℕ → ℕ → ℕ
@@ -13,10 +11,6 @@ packed (w ∷ ws) n = (w + 1) + 128 * packed ws n
 -- more than any number of three words
 abbrev pub past_three : ℕ
 past_three = 2097152
-
--- with what nothing may begin, as a number
-abbrev pub unless_in : ℕ → Unless
-unless_in u = cond (eqb u 1) Four (cond (eqb u 2) Brace Nothing)
 
 unfoldable pub place_in : ℕ → canon.Place
 place_in n =

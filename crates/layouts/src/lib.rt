@@ -8,15 +8,15 @@ ghost use Rattle.canon.specs.Layout as canon;
 ghost use Rattle.canon.specs.Text.{signs};
 ghost use Rattle.canon.specs.Events.{closing};
 ghost use Rattle.sink.specs.Told.{said};
-ghost use Rattle.places.specs.Meant.{meant};
+ghost use Rattle.places.specs.Meant.{meant, unless_in};
 ghost use Rattle.places.specs.Under.{under};
 ghost use Rattle.layouts.specs.Phases.{before_type, before_operand, before_part, before_headed, before_imported, before_item, before, behind_part, behind_statement, behind_param, next, end_of_type, end_of_operand, end_of_part, end_of_item, behind};
-ghost use Rattle.layouts.specs.Packed.{packed, past_three, unless_in, place_in};
+ghost use Rattle.layouts.specs.Packed.{packed, past_three, place_in};
 
 use places::under::place_under;
 use places::{Mark, Place, Unless, is_four};
 use rows::kind;
-use sink::DIGIT;
+use sink::{DIGIT, WORDS};
 use tokens::word;
 
 // An f-string's row ends before its quote, which is copied with it.
@@ -473,9 +473,6 @@ pub fn ending(row: Mark, phase: u64, more: bool, pair: bool) -> u64
 // What waits: a place and the words before it in one number.
 // kept: it lies in the lent plan, a fixed table of numbers; its size for a row is promised.
 
-// More than any number of three words.
-const WORDS: u64 = 2097152;
-
 fn bit(b: bool) -> u64
     ensures { result ≡ cond b 1 0 }
 {
@@ -489,16 +486,6 @@ fn unless_bits(unless: Unless) -> u64
         Unless::Nothing => 0,
         Unless::Four => 1,
         Unless::Brace => 2,
-    }
-}
-
-fn unless_in(bits: u64) -> Unless
-    ensures { result ≡ unless_in bits }
-{
-    match bits {
-        1 => Unless::Four,
-        2 => Unless::Brace,
-        _ => Unless::Nothing,
     }
 }
 
@@ -523,7 +510,7 @@ pub fn place_of(packed: u64) -> Place
         records: c / 8 % 2 == 1,
         path: c / 16 % 2 == 1,
         more: c / 32 % 2 == 1,
-        unless: unless_in(c / 64 % 4),
+        unless: Unless::of(c / 64 % 4),
     }
 }
 

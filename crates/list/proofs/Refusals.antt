@@ -1,4 +1,4 @@
--- None refusal has the number 0; so where the source is refused, or its tokens exceed the room, the answer's number isn't 0.
+-- No refusal has the number 0; so where the source is refused, or its tokens exceed the room, the answer's number isn't 0.
 use Rattle.std.specs.Prelude.{Some, None, Ok, Err}
 use mathlib.Core.Path.{◌≡◌, refl, sym, ap, ◌∙◌, subst}
 use Prim.Native.Nat.{ℕ, zero, suc, ◌+◌, ◌<◌}

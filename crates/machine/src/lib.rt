@@ -3,7 +3,7 @@
 
 ghost use Rattle.std.specs.Prelude.{◌≡◌, ◌+◌, ◌*◌, ◌<◌, ◌≤◌, List, [], ◌∷◌, length, reverse, take, Ok, Err, OnOk, OnErr, IfErr, IfSome, IfNone};
 ghost use Rattle.machine.specs.declared.Value.{Value};
-ghost use Rattle.machine.specs.Values.{op_of, integer_of, literal_value, single_of, double_of, whole_of, order_of, float_of, join_of, numbers_of, floats_of, truths_of, extended_of, float_bits, bits_of};
+ghost use Rattle.machine.specs.Values.{op_of, integer_of, literal_value, single_of, double_of, part_of, whole_of, order_of, float_of, join_of, numbers_of, floats_of, truths_of, extended_of, float_bits, bits_of};
 ghost use Rattle.machine.specs.Machine.{wide, instr_at, step_of, ended, ran_of};
 
 use rows::kind;
@@ -156,19 +156,26 @@ pub fn single(kind: u64, ty: u64, a: Value) -> Value
     }
 }
 
+// A quotient or a remainder as a value.
+#[tactic(auto, unfolding(crate::specs::Values::part_of))]
+pub fn part(p: Option<u64>) -> Option<Value>
+    ensures { result ≡ part_of p }
+{
+    Some(Value::Whole(p?))
+}
+
 // None where the divisor is zero.
-#[tactic(auto, unfolding(crate::specs::Values::whole_of, crate::specs::Values::part_of))]
+#[tactic(auto, unfolding(crate::specs::Values::whole_of))]
 pub fn whole(o: Sum, t: Integer, a: u64, b: u64) -> Option<Value>
     ensures { result ≡ whole_of o t a b }
 {
-    let n = match o {
-        Sum::Plus => wholes::sum(t, a, b),
-        Sum::Minus => wholes::difference(t, a, b),
-        Sum::Times => wholes::product(t, a, b),
-        Sum::Over => wholes::quotient(t, a, b)?,
-        Sum::Rest => wholes::remainder(t, a, b)?,
-    };
-    Some(Value::Whole(n))
+    match o {
+        Sum::Plus => Some(Value::Whole(wholes::sum(t, a, b))),
+        Sum::Minus => Some(Value::Whole(wholes::difference(t, a, b))),
+        Sum::Times => Some(Value::Whole(wholes::product(t, a, b))),
+        Sum::Over => part(wholes::quotient(t, a, b)),
+        Sum::Rest => part(wholes::remainder(t, a, b)),
+    }
 }
 
 #[tactic(auto, unfolding(crate::specs::Values::order_of))]
@@ -288,33 +295,24 @@ pub fn bits_of(ty: u64, v: Value) -> u64
 // kept: a stack of our own, since the kit's ArrayVec would be the first crate that the library stands on.
 // The values on the stack.
 #[derive(Drop)]
-struct Stack {
-    values: [Value; MOST],
+struct Stack<'a> {
+    values: &'a mut [Value; MOST],
     depth: usize,
 }
 
 // Seen as a list, its top first.
-impl Model for Stack {
-    ghost use Rattle.std.specs.Prelude.{ℕ, List, ◌≤◌, reverse, take};
+impl<'a> Model for Stack<'a> {
+    ghost use Rattle.std.specs.Prelude.{ℕ, List, ◌≡◌, ◌≤◌, length, reverse, take};
     ghost use Rattle.machine.specs.declared.Value as value;
 
     ghost Value = { List value.Value };
 
-    ghost view = { λ s. reverse (take s.depth s.values) };
+    ghost view = { λ s. reverse (take s.depth s.values.now) };
 
-    ghost invariant = { λ s. s.depth ≤ 1024 };
+    ghost invariant = { λ s. (length s.values.now ≡ 1024) × (s.depth ≤ 1024) };
 }
 
-impl Stack {
-    fn new() -> Stack
-        ensures { result ≡ [] }
-    {
-        Stack {
-            values: [Value::Truth(false); MOST],
-            depth: 0,
-        }
-    }
-
+impl<'a> Stack<'a> {
     fn push(&mut self, v: Value)
         requires { length self.old < 1024 }
         ensures { self.new ≡ v ∷ self.old }
@@ -392,7 +390,12 @@ pub fn run(list: &[u64], n: usize) -> Result<Value, Stop>
     if (MOST < n) | (list.len() / WIDTH < n) {
         return Err(Stop::Broken);
     }
-    let mut stack = Stack::new();
+    // Lent to the stack: moved into it, all of them would be copied, for which the library for C would need memcpy.
+    let mut values = [Value::Truth(false); MOST];
+    let mut stack = Stack {
+        values: &mut values,
+        depth: 0,
+    };
     for i in 0..n {
         stack.step(read(list, i))?;
     }

@@ -28,12 +28,11 @@ fn asks(a: Answer, tries: &mut Tries) -> bool {
     }
 }
 
-// What could stand at a refusal's place.
-fn expected(a: Answer, tries: &mut Tries) -> Expected {
+// What could stand at a refusal's place, where nothing is said yet.
+fn expect(a: Answer, tries: &mut Tries, expected: &mut Expected) {
     if asks(a, tries) {
-        return next_words::of_all(tries);
+        expected.fill(tries);
     }
-    NOTHING
 }
 
 // The name of a file in a line of text: without control bytes, each of which is a question mark there, byte 63.
@@ -75,7 +74,8 @@ fn reported(
     room: &mut [u8],
 ) -> fmt::Result {
     let mut tries = behind(room, s, from, a);
-    let expected = expected(a, &mut tries);
+    let mut expected = NOTHING;
+    expect(a, &mut tries, &mut expected);
     head(page, name, s, a)?;
     causes::message(page, s, a, &mut tries, &expected)?;
     page.put(b'\n');
@@ -136,7 +136,8 @@ fn json_reported(
     room: &mut [u8],
 ) -> fmt::Result {
     let mut tries = behind(room, s, 0, a);
-    let expected = expected(a, &mut tries);
+    let mut expected = NOTHING;
+    expect(a, &mut tries, &mut expected);
     json_head(page, name, b"refused");
     json_place(page, s, a)?;
     page.put_all(b",\"message\":\"");

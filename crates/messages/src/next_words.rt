@@ -216,7 +216,7 @@ pub const NOTHING: Expected = Expected {
 };
 
 // Whether all words of a kind are left; they are not, then.
-fn take_kind(words: &mut [bool], kind: Kind) -> bool {
+fn take_kind(words: &mut [bool], kind: &Kind) -> bool {
     let is_whole = words.iter().take(kind.to).skip(kind.from).all(|w| *w);
     if is_whole {
         for w in words.iter_mut().take(kind.to).skip(kind.from) {
@@ -226,30 +226,19 @@ fn take_kind(words: &mut [bool], kind: Kind) -> bool {
     is_whole
 }
 
-fn passed(tries: &mut Tries) -> [bool; COUNT] {
-    let mut passed = [false; COUNT];
-    for (is_passed, word) in passed.iter_mut().zip(WORDS) {
-        *is_passed = tries.pass(word);
-    }
-    passed
-}
-
-// What could stand behind a source.
-pub fn of_all(tries: &mut Tries) -> Expected {
-    let passed = passed(tries);
-    let mut words = passed;
-    let mut kinds = [false; KIND_COUNT];
-    for (is_whole, kind) in kinds.iter_mut().zip(KINDS) {
-        *is_whole = take_kind(&mut words, kind);
-    }
-    Expected {
-        passed,
-        kinds,
-        words,
-    }
-}
-
 impl Expected {
+    // What could stand behind a source. It is written where it lies: handed back, it would be copied, for which the library for C would need memcpy.
+    pub fn fill(&mut self, tries: &mut Tries) {
+        for (i, word) in WORDS.iter().enumerate() {
+            let is_passed = tries.pass(word);
+            self.passed[i] = is_passed;
+            self.words[i] = is_passed;
+        }
+        for (i, kind) in KINDS.iter().enumerate() {
+            self.kinds[i] = take_kind(&mut self.words, kind);
+        }
+    }
+
     fn count(&self) -> usize {
         let kinds = self.kinds.iter().filter(|k| **k).count();
         let words = self.words.iter().filter(|w| **w).count();
@@ -260,13 +249,13 @@ impl Expected {
     fn each<F: FnMut(&str, bool)>(&self, mut put: F)
         requires { F.IsAlwaysCallable put }
     {
-        for (kind, is_whole) in KINDS.iter().zip(self.kinds) {
-            if is_whole {
+        for (kind, is_whole) in KINDS.iter().zip(&self.kinds) {
+            if *is_whole {
                 put(kind.name, false);
             }
         }
-        for (word, is_left) in WORDS.iter().zip(self.words) {
-            if is_left {
+        for (word, is_left) in WORDS.iter().zip(&self.words) {
+            if *is_left {
                 put(word, true);
             }
         }

@@ -6,7 +6,7 @@ ghost use Rattle.grammar.specs.Grammar.{one_of};
 ghost use Rattle.canon.specs.Trees.{Forest, copied};
 ghost use Rattle.canon.specs.Layout as canon;
 ghost use Rattle.canon.specs.Text.{inner};
-ghost use Rattle.places.specs.Meant.{mark, meant, unless_of};
+ghost use Rattle.places.specs.Meant.{mark, meant, unless_in, unless_of};
 
 use rows::kind;
 
@@ -18,6 +18,19 @@ pub enum Unless {
     Nothing,
     Four,
     Brace,
+}
+
+impl Unless {
+    // By its number: 1 the four, 2 `{`, any other nothing.
+    pub fn of(n: u64) -> Unless
+        ensures { result ≡ unless_in n }
+    {
+        match n {
+            1 => Unless::Four,
+            2 => Unless::Brace,
+            _ => Unless::Nothing,
+        }
+    }
 }
 
 // What a place asks: a level at least; whether a record may stand; whether a path may; with which words nothing may begin there; whether an arm follows.
@@ -92,6 +105,13 @@ impl Place {
     {
         if pair { Place::whole() } else { self }
     }
+}
+
+// What a place asks, with what nothing may begin by its number.
+pub fn asks(level: u64, records: bool, unless: u64) -> Place
+    ensures { meant result ≡ canon.asks level records (unless_of (unless_in unless)) }
+{
+    Place::asks(level, records, Unless::of(unless))
 }
 
 // What a row is, by its numbers.

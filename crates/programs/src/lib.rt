@@ -6,7 +6,8 @@ ghost use Rattle.std.specs.Prelude.{◌≡◌, ◌≤◌, length, IfOk, IfSome, 
 
 use std::alloc::{AllocError, Global};
 use std::env::FillError;
-use std::fmt::Display;
+use std::fmt;
+use std::fmt::{Display, Write as _};
 use std::io::{Error, Read, Stdout, Write};
 use std::rt::Env;
 
@@ -174,11 +175,21 @@ impl Out {
         self.written = self.written.and_then(|()| self.stdout.write_all(text));
     }
 
-    // A text, a number or a format.
+    // A text, a number or a format, written at once up to `PIECE` bytes.
     pub fn print(&mut self, what: impl Display + Drop)
         ensures { OnErr self.old.written (self.new.written ≡ self.old.written) }
     {
-        self.written = self.written.and_then(|()| self.stdout.write_fmt(what));
+        if self.written.is_ok() {
+            let mut piece = Piece {
+                out: *self,
+                bytes: [0; PIECE],
+                length: 0,
+            };
+            // A piece takes each text: what can't be written is known to `out`.
+            let _ = piece.write_fmt(what);
+            piece.pass_on();
+            *self = piece.out;
+        }
     }
 
     // Whether all of it was written.
@@ -186,6 +197,39 @@ impl Out {
         ensures { result ≡ self.now.written }
     {
         self.written
+    }
+}
+
+// Bytes of what is printed that are written at once.
+const PIECE: usize = 256;
+
+// What is printed, put together before it is written.
+#[derive(Drop)]
+struct Piece {
+    out: Out,
+    bytes: [u8; PIECE],
+    length: usize,
+}
+
+impl Piece {
+    fn pass_on(&mut self) {
+        self.out.say(&self.bytes[..self.length.min(PIECE)]);
+        self.length = 0;
+    }
+}
+
+impl fmt::Write for Piece {
+    fn write_str(&mut self, text: &str) -> fmt::Result {
+        for b in text.as_bytes() {
+            if PIECE <= self.length {
+                self.pass_on();
+            }
+            if let Some(place) = self.bytes.get_mut(self.length) {
+                *place = *b;
+                self.length += 1;
+            }
+        }
+        Ok(())
     }
 }
 

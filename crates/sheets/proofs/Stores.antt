@@ -85,10 +85,13 @@ zeros_put f from k {ys} e l =
     ∙ sym (zeroed_behind (take from f) (drop from f))
     ∙ (λ i. zeroed (take-append-drop from f i) (t i))
 
--- bytes that are put at a place, and those that std makes of a number
-pub part_put : (b part : List ℕ) (at k : ℕ) {ys : List ℕ} → ys ≡ part → length part ≡ k → at + k ≤ length b → put_mid at k b ys ≡ sets b at part
-part_put b part at k {ys} e l h = ap (put_mid at k b) e ∙ ap (λ (x : List ℕ). take at b ++ (part ++ x)) (drop-drop k at b ∙ ap (λ (n : ℕ). drop (at + n) b) (sym l)) ∙ sym (append_assoc (take at b) part (drop (at + length part) b)) ∙ sym (sets-eq part b at (omega (arith, l, h)))
+-- bytes that are put at a place, one behind the other
+pub byte_more : (f s g : List ℕ) (at i : ℕ) → g ≡ sets f at (take i s) → i < length s → set g (at + i) (get_or s i 0) ≡ sets f at (take (i + 1) s)
+byte_more f s g at i e h =
+    let t = lib.Seq.length-take-le i s (omega arith) in
+    ap (λ (l : List ℕ). set l (at + i) (get_or s i 0)) e ∙ stored_behind f (take i s) (get_or s i 0 ∷ []) at (omega (arith, t)) ∙ ap (sets f at) (sym (ap (λ (n : ℕ). take n s) (native.Mathlib.Numerals.add-one i) ∙ take-suc s i 0 h))
 
+-- and those that std makes of a number
 pub long_bytes : (x : ℕ) → to_le_bytes w64 x ≡ bytes 8 x
 unfolding bytes
 long_bytes x =

@@ -33,12 +33,14 @@ pub fn long_at(b: &[u8], at: usize) -> u64
 }
 
 // Some bytes at a place.
+// kept: byte by byte, since with `copy_from_slice` the library for C would need memmove from outside.
 pub fn put(b: &mut [u8], at: usize, part: &[u8])
     requires { at + length part.now ≤ length b.old }
     ensures { b.new ≡ sets b.old at part.now }
 {
-    let end = at + part.len();
-    b[at..end].copy_from_slice(part);
+    for (i, x) in part.iter().enumerate() {
+        b[at + i] = *x;
+    }
 }
 
 pub fn put_long(b: &mut [u8], at: usize, x: u64)

@@ -186,7 +186,10 @@ fn row_behind(row: u64, prefix: bool) -> u64
 // kept: what waits lies in the lent plan, a fixed table of numbers.
 pub const DIGIT: u64 = 128;
 
-const SQUARE: u64 = 16384;
+pub const SQUARE: u64 = 16384;
+
+// More than any number of three words.
+pub const WORDS: u64 = 2097152;
 
 // `(` behind three words.
 fn round(pair: bool) -> u64

@@ -4,4 +4,4 @@ use Rattle.layouts.proofs.place_of.Goals as goal
 
 pub returns : goal.returns
 unfolding place_in
-returns c = rw c.unless_in.ensures refl
+returns c = rw c.of.ensures refl

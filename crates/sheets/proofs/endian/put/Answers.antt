@@ -1,6 +1,5 @@
-use native.Mathlib.Omega.{arith}
-use Rattle.sheets.proofs.Stores.{part_put}
+use Rattle.sheets.proofs.Stores.{byte_more}
 use Rattle.sheets.proofs.endian.put.Goals as goal
 
-pub returns : goal.returns
-returns c = part_put c.args.b.now c.args.part.now c.args.at _ c.copy_from_slice.ensures.after (omega arith) (omega arith)
+pub loop-i-preserved : goal.loop-i-preserved
+loop-i-preserved c = byte_more c.args.b.now c.args.part.now c.loop-i.b c.args.at c.loop-i.i c.loop-i.invariant c.loop-i-test.true
