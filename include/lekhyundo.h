@@ -4,7 +4,7 @@
  * not be null or unaligned, also for 0 elements, and nothing is kept of it. No function allocates, fails or asks anything
  * of the bytes. What each says is proved, but for the words of lekhyundo_report.
  *
- * (a) and (b) call themselves as deep as a source nests: little stack for filters of a few levels, 1,255 KiB on
+ * (a) and (b) call themselves as deep as a source nests: little stack for filters of a few levels, 1,118 KiB on
  * x86-64 for one that nests at all limits at once (docs/ARCHITECTURE.md, "Stack"); lekhyundo_constant takes 17 KiB more than
  * (a) on the same source, and up to 66 KiB beside that for a `%` of floats that lie far apart. A thread with
  * LEKHYUNDO_MOST_STACK bytes of stack can read what strangers wrote.
